@@ -1,0 +1,172 @@
+-- Laws of the tests and of the small loops over places (specs/Tests.antt). Elsewhere these laws are used, and not the definitions' text.
+use Prim.Native.Nat.{ℕ, zero, suc, max, _≤_, _<_}
+use mathlib.Core.Path.{_≡_, refl, sym, ap, _∙_, subst}
+use mathlib.Core.Bool.{Bool, true, false, cond, _&&_, _||_}
+use mathlib.Core.List.{List, [], _∷_}
+use mathlib.Core.Logic.{⊎-elim, _⊎_, inl, inr}
+use native.Mathlib.Nat.{le-refl, le-trans, le-max-left, le-max-right, max-le, not-suc-le-zero, eq-or-lt-of-le, le-of-suc-le-suc, suc-ne-zero, lt-irrefl, not-le-of-lt}
+use native.Mathlib.Omega.{arith}
+use borrow.Author.Tests.{ltb-true, ltb-false}
+use lib.Dec.{T, ltb, eqb, eqb→eq, eqb-refl}
+use lib.ListN.{length, getD}
+use Rattle.model.specs.Tests.{check, _then_, everywhere, anywhere, firstPlace, greatest, listed, same}
+
+-- two tests together
+
+pub and-left : (a b : Bool) → T (a && b) → T a
+and-left true b t = tt
+and-left false b t = t
+
+pub and-right : (a b : Bool) → T (a && b) → T b
+and-right true b t = t
+and-right false b t = absurd t
+
+pub and-both : (a b : Bool) → T a → T b → T (a && b)
+and-both true b t u = u
+and-both false b t u = t
+
+or-cases : (a b : Bool) → T (a || b) → T a ⊎ T b
+or-cases true b t = inl tt
+or-cases false b t = inr t
+
+-- a test with its number, and tests in order
+
+pub check-zero : (passes : Bool) (number : ℕ) → check passes (suc number) ≡ 0 → T passes
+check-zero true number e = tt
+check-zero false number e = absurd (suc-ne-zero number e)
+
+pub check-passes : (passes : Bool) (number : ℕ) → T passes → check passes number ≡ 0
+check-passes true number t = refl
+check-passes false number t = absurd t
+
+pub then-left : (a b : ℕ) → a then b ≡ 0 → a ≡ 0
+then-left zero b e = refl
+then-left (suc a) b e = e
+
+pub then-right : (a b : ℕ) → a then b ≡ 0 → b ≡ 0
+then-right zero b e = e
+then-right (suc a) b e = absurd (suc-ne-zero a e)
+
+pub then-both : (a b : ℕ) → a ≡ 0 → b ≡ 0 → a then b ≡ 0
+then-both zero b d e = e
+then-both (suc a) b d e = d
+
+-- everywhere and anywhere below n
+
+below-suc : {i n : ℕ} → i < suc n → (i ≡ n) ⊎ (i < n)
+below-suc h = eq-or-lt-of-le (le-of-suc-le-suc h)
+
+pub everywhere-at : (test : ℕ → Bool) (n : ℕ) → T (everywhere test n) → (i : ℕ) → i < n → T (test i)
+unfolding everywhere
+everywhere-at test zero t i h = absurd (not-suc-le-zero h)
+everywhere-at test (suc n) t i h =
+    ⊎-elim (λ e. subst (λ (j : ℕ). T (test j)) (sym e) (and-right (everywhere test n) (test n) t))
+    (λ l. everywhere-at test n (and-left (everywhere test n) (test n) t) i l) (below-suc h)
+
+pub everywhere-all : (test : ℕ → Bool) (n : ℕ) → ((i : ℕ) → i < n → T (test i)) → T (everywhere test n)
+unfolding everywhere
+everywhere-all test zero all = tt
+everywhere-all test (suc n) all =
+    and-both (everywhere test n) (test n) (everywhere-all test n (λ i h. all i (omega arith))) (all n (le-refl (suc n)))
+
+pub anywhere-at : (test : ℕ → Bool) (n : ℕ) → T (anywhere test n) → (i : ℕ) × (i < n) × T (test i)
+unfolding anywhere
+anywhere-at test zero t = absurd t
+anywhere-at test (suc n) t =
+    ⊎-elim (λ l. let found = anywhere-at test n l in (found .0, omega (arith, found .1), found .2)) (λ r. (n, le-refl (suc n), r))
+    (or-cases (anywhere test n) (test n) t)
+
+or-left : (a b : Bool) → T a → T (a || b)
+or-left true b t = tt
+or-left false b t = absurd t
+
+or-right : (a b : Bool) → T b → T (a || b)
+or-right true b t = tt
+or-right false b t = t
+
+pub anywhere-one : (test : ℕ → Bool) (n i : ℕ) → i < n → T (test i) → T (anywhere test n)
+unfolding anywhere
+anywhere-one test zero i h t = absurd (not-suc-le-zero h)
+anywhere-one test (suc n) i h t =
+    ⊎-elim (λ e. or-right (anywhere test n) (test n) (subst (λ (j : ℕ). T (test j)) e t))
+    (λ l. or-left (anywhere test n) (test n) (anywhere-one test n i l t)) (below-suc h)
+
+-- the greatest of f 0 to f (n - 1)
+
+pub greatest-at : (f : ℕ → ℕ) (n i : ℕ) → i < n → f i ≤ greatest f n
+unfolding greatest
+greatest-at f zero i h = absurd (not-suc-le-zero h)
+greatest-at f (suc n) i h =
+    ⊎-elim (λ e. subst (λ (j : ℕ). f j ≤ max (greatest f n) (f n)) (sym e) (le-max-right (greatest f n) (f n)))
+    (λ l. le-trans (greatest-at f n i l) (le-max-left (greatest f n) (f n))) (below-suc h)
+
+pub greatest-upto : (f : ℕ → ℕ) (n b : ℕ) → ((i : ℕ) → i < n → f i ≤ b) → greatest f n ≤ b
+unfolding greatest
+greatest-upto f zero b all = omega arith
+greatest-upto f (suc n) b all = max-le (greatest-upto f n b (λ i h. all i (omega arith))) (all n (le-refl (suc n)))
+
+-- listed
+
+pub length-listed {ℓ} : {A : Type ℓ} (f : ℕ → A) (n : ℕ) → length (listed f n) ≡ n
+unfolding listed
+length-listed f zero = refl
+length-listed f (suc n) = ap suc (length-listed (λ i. f (suc i)) n)
+
+pub getD-listed {ℓ} : {A : Type ℓ} (f : ℕ → A) (n i : ℕ) (d : A) → i < n → getD (listed f n) i d ≡ f i
+unfolding listed
+getD-listed f zero i d h = absurd (not-suc-le-zero h)
+getD-listed f (suc n) zero d h = refl
+getD-listed f (suc n) (suc i) d h = getD-listed (λ j. f (suc j)) n i d (le-of-suc-le-suc h)
+
+-- the first place at which a test holds: where it is below n the test holds there, and it is no later than any place at which it holds
+
+last-holds : (test : ℕ → Bool) (n : ℕ) (b : Bool) → test n ≡ b → cond b n (suc n) < suc n → T (test (cond b n (suc n)))
+last-holds test n true e h = subst T (sym e) tt
+last-holds test n false e h = absurd (lt-irrefl (suc n) h)
+
+pub first-holds : (test : ℕ → Bool) (n : ℕ) → firstPlace test n < n → T (test (firstPlace test n))
+unfolding firstPlace
+first-holds test zero h = absurd (not-suc-le-zero h)
+first-holds test (suc n) h = go (firstPlace test n) (first-holds test n) (ltb (firstPlace test n) n) refl h
+  where
+    go : (p : ℕ) → (p < n → T (test p)) → (c : Bool) → ltb p n ≡ c →
+        cond c p (cond (test n) n (suc n)) < suc n → T (test (cond c p (cond (test n) n (suc n))))
+    go p ih true e h = ih (ltb-true p n e)
+    go p ih false e h = last-holds test n (test n) refl h
+
+last-upto : (n : ℕ) (b : Bool) → T b → cond b n (suc n) ≤ n
+last-upto n true t = le-refl n
+last-upto n false t = absurd t
+
+pub first-upto : (test : ℕ → Bool) (n i : ℕ) → i < n → T (test i) → firstPlace test n ≤ i
+unfolding firstPlace
+first-upto test zero i h t = absurd (not-suc-le-zero h)
+first-upto test (suc n) i h t = go (firstPlace test n) (first-upto test n i) (ltb (firstPlace test n) n) refl (below-suc h)
+  where
+    go : (p : ℕ) → (i < n → T (test i) → p ≤ i) → (c : Bool) → ltb p n ≡ c → (i ≡ n) ⊎ (i < n) →
+        cond c p (cond (test n) n (suc n)) ≤ i
+    go p ih true e (inl d) = let l : p < n = ltb-true p n e in omega arith
+    go p ih true e (inr l) = ih l t
+    go p ih false e (inl d) =
+        let k : cond (test n) n (suc n) ≤ n = last-upto n (test n) (subst (λ (j : ℕ). T (test j)) d t) in
+        subst (λ (j : ℕ). cond (test n) n (suc n) ≤ j) (sym d) k
+    go p ih false e (inr l) =
+        let small : p ≤ i = ih l t in
+        let large : n ≤ p = ltb-false p n e in
+        absurd (not-le-of-lt l (le-trans large small))
+
+-- same lists
+
+pub same-refl : (l : List ℕ) → T (same l l)
+unfolding same
+same-refl [] = tt
+same-refl (x ∷ l) = and-both (eqb x x) (same l l) (eqb-refl x) (same-refl l)
+
+pub same-true : (l m : List ℕ) → T (same l m) → l ≡ m
+unfolding same
+same-true [] [] t = refl
+same-true [] (y ∷ m) t = absurd t
+same-true (x ∷ l) [] t = absurd t
+same-true (x ∷ l) (y ∷ m) t =
+    ap (λ (z : ℕ). z ∷ l) (eqb→eq x y (and-left (eqb x y) (same l m) t)) ∙
+    ap (λ (r : List ℕ). y ∷ r) (same-true l m (and-right (eqb x y) (same l m) t))

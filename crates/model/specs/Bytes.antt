@@ -1,0 +1,56 @@
+-- Document 01, "Bytes": a number's code, a sheet's bytes, and what the writer leaves.
+use Prim.Native.Nat.{ℕ, zero, suc, _+_, _*_, _%_, _/_}
+use mathlib.Core.Bool.{Bool, cond}
+use mathlib.Core.List.{List, [], _∷_, _++_}
+use lib.Dec.{leb, ltb, eqb}
+use lib.ListN.{length, drop}
+use Rattle.model.specs.Counted.{Counted, speedAt, energyAt, weightAt, sizeAt, deadlineAt}
+use Rattle.model.specs.Refusal.{sheetRefusal}
+use Rattle.model.specs.Tests.{check, _then_}
+
+-- "Each number is cut into groups of seven bits, the lowest group first, the high bit set on every byte but the last": in at most n bytes
+unfoldable pub codeIn : ℕ → ℕ → List ℕ
+codeIn zero x = []
+codeIn (suc n) x = cond (ltb x 128) (x ∷ []) ((128 + x % 128) ∷ codeIn n (x / 128))
+
+-- "At most three bytes; the shortest form only". It is the code of every number below 128^3
+abbrev pub code : ℕ → List ℕ
+code x = codeIn 3 x
+
+-- "for each, speed then energy"
+unfoldable pub speedBytes : Counted → ℕ → List ℕ
+speedBytes s zero = []
+speedBytes s (suc j) = speedBytes s j ++ (code (speedAt s j) ++ code (energyAt s j))
+
+-- "for each, weight, size, deadline"
+unfoldable pub jobBytes : Counted → ℕ → List ℕ
+jobBytes s zero = []
+jobBytes s (suc i) = jobBytes s i ++ (code (weightAt s i) ++ (code (sizeAt s i) ++ code (deadlineAt s i)))
+
+-- "Field order: D; count of speeds; for each, speed then energy; T; count of jobs; for each, weight, size, deadline. Nothing follows"
+unfoldable pub sheetBytes : Counted → List ℕ
+sheetBytes s =
+    code (s .bound) ++
+    (code (s .speedCount) ++
+    (speedBytes s (s .speedCount) ++
+    (code (s .horizon) ++
+    (code (s .jobCount) ++
+    jobBytes s (s .jobCount)))))
+
+-- "Planner, writer and row: 4 to 10, 11": `room` is the length of the lent buffer
+unfoldable pub writeRefusal : Counted → ℕ → ℕ
+writeRefusal s room = sheetRefusal s then check (leb (length (sheetBytes s)) room) 11
+
+-- what the writer answers, and what it leaves in the lent buffer
+pub record Written : Type 0 where
+  pub number : ℕ
+  pub written : ℕ
+  pub buffer : List ℕ
+
+-- the sheet's bytes and then what stood there; "A refused write .. touches no lent place and reports zero for length"
+unfoldable pub write : Counted → List ℕ → Written
+write s buffer =
+    let number = writeRefusal s (length buffer) in
+    cond (eqb number 0)
+    (record { number = 0; written = length (sheetBytes s); buffer = sheetBytes s ++ drop (length (sheetBytes s)) buffer })
+    (record { number = number; written = 0; buffer = buffer })

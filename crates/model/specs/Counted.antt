@@ -1,0 +1,112 @@
+-- The sheet of document 01, "The sheet", as the places that count: "In memory a sheet has room for all entries; places past the counts
+-- are ignored by every call". Every rule is said of this view, so that places past the counts cannot matter; two sheets are the same
+-- "in every place that counts" where their views are equal.
+use Prim.Native.Nat.{ℕ, _+_, _*_}
+use mathlib.Core.Bool.{Bool, cond}
+use mathlib.Core.List.{List, [], _∷_, _++_}
+use lib.Dec.{eqb}
+use lib.ListN.{take, getD, replicate}
+use Rattle.process.specs.Sums.{sum}
+use Rattle.model.specs.Tests.{greatest, listed, anywhere, firstPlace}
+use Rattle.model.specs.declared.Job.{Job}
+use Rattle.model.specs.declared.Sheet.{Sheet}
+use Rattle.model.specs.declared.Speed.{Speed}
+
+-- "deadline bound, speeds with energies, horizon, weighted jobs"
+pub record Counted : Type 0 where
+  pub bound : ℕ
+  pub speedCount : ℕ
+  pub speeds : List Speed
+  pub horizon : ℕ
+  pub jobCount : ℕ
+  pub jobs : List Job
+
+abbrev pub counted : Sheet → Counted
+counted s =
+    record {
+      bound = s .bound;
+      speedCount = s .«speed_count»;
+      speeds = take (s .«speed_count») (s .speeds);
+      horizon = s .horizon;
+      jobCount = s .«job_count»;
+      jobs = take (s .«job_count») (s .jobs);
+    }
+
+abbrev pub zeroSpeed : Speed
+zeroSpeed = record { speed = 0; energy = 0 }
+
+abbrev pub zeroJob : Job
+zeroJob = record { weight = 0; size = 0; deadline = 0 }
+
+-- a list in n places, the ones past its end filled with `zeros`
+abbrev pub padded {ℓ} : {A : Type ℓ} → ℕ → A → List A → List A
+padded n zeros l = take n (l ++ replicate n zeros)
+
+-- "Write then read gives the sheet with those places zero": the counted places in memory, and zero in every other
+abbrev pub inMemory : Counted → Sheet
+inMemory s =
+    record {
+      bound = s .bound;
+      «speed_count» = s .speedCount;
+      speeds = padded 9 zeroSpeed (s .speeds);
+      horizon = s .horizon;
+      «job_count» = s .jobCount;
+      jobs = padded 32 zeroJob (s .jobs);
+    }
+
+-- "an all-zero sheet"
+abbrev pub zeroSheet : Sheet
+zeroSheet =
+    record {
+      bound = 0;
+      «speed_count» = 0;
+      speeds = replicate 9 zeroSpeed;
+      horizon = 0;
+      «job_count» = 0;
+      jobs = replicate 32 zeroJob;
+    }
+
+-- what stands at a place of the sheet, the places counted from 0
+
+abbrev pub speedAt : Counted → ℕ → ℕ
+speedAt s j = (getD (s .speeds) j zeroSpeed) .speed
+
+abbrev pub energyAt : Counted → ℕ → ℕ
+energyAt s j = (getD (s .speeds) j zeroSpeed) .energy
+
+abbrev pub weightAt : Counted → ℕ → ℕ
+weightAt s i = (getD (s .jobs) i zeroJob) .weight
+
+abbrev pub sizeAt : Counted → ℕ → ℕ
+sizeAt s i = (getD (s .jobs) i zeroJob) .size
+
+abbrev pub deadlineAt : Counted → ℕ → ℕ
+deadlineAt s i = (getD (s .jobs) i zeroJob) .deadline
+
+-- the sheet's speeds, in the sheet's order
+unfoldable pub speedsOf : Counted → List ℕ
+speedsOf s = listed (speedAt s) (s .speedCount)
+
+-- a speed is on the sheet
+unfoldable pub onSheet : Counted → ℕ → Bool
+onSheet s speed = anywhere (λ j. eqb (speedAt s j) speed) (s .speedCount)
+
+-- the energy per slot of a speed that is on the sheet
+unfoldable pub energyOf : Counted → ℕ → ℕ
+energyOf s speed = energyAt s (firstPlace (λ j. eqb (speedAt s j) speed) (s .speedCount))
+
+-- "W is the sum of the weights"
+unfoldable pub W : Counted → ℕ
+W s = sum (weightAt s) (s .jobCount)
+
+-- "the largest M"
+unfoldable pub M : Counted → ℕ
+M s = greatest (speedAt s) (s .speedCount)
+
+-- "the greatest energy", over all the speeds; 0 where all are 0
+unfoldable pub greatestEnergy : Counted → ℕ
+greatestEnergy s = greatest (energyAt s) (s .speedCount)
+
+-- "G is the greatest energy, or 1 if that is 0"
+unfoldable pub G : Counted → ℕ
+G s = cond (eqb (greatestEnergy s) 0) 1 (greatestEnergy s)

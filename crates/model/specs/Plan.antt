@@ -1,0 +1,152 @@
+-- Document 01, "Energy and plans": the process of a sheet, what the value and the plan's speed of a slot and queue are, and what the
+-- planner and the row call answer. All of it is said of ways (process/specs/Ways.antt); no induction is mentioned.
+use Prim.Native.Nat.{ℕ, zero, suc, _+_, _*_, _-_, _^_, _≤_, _<_}
+use mathlib.Core.Path.{_≡_}
+use mathlib.Core.Bool.{Bool, cond, _&&_}
+use mathlib.Core.List.{List, []}
+use mathlib.Core.Option.{Option, none, some}
+use lib.Dec.{leb, ltb, eqb}
+use lib.ListN.{length, getD, take, drop}
+use Rattle.process.specs.Ways.{Process, IsValue, IsCost, IsFirst}
+use Rattle.model.specs.Counted.{Counted, sizeAt, deadlineAt, weightAt, speedsOf, onSheet, energyOf, M}
+use Rattle.model.specs.Queue.{Queue, total, emptyQueue, bearable, run, arrive, bearableQueues}
+use Rattle.model.specs.Refusal.{sheetRefusal, N}
+use Rattle.model.specs.Tests.{check, _then_, everywhere}
+
+-- the queue after one slot at a speed and then the arrival of the entry at place i
+unfoldable pub nextQueue : Counted → Queue → ℕ → ℕ → Queue
+nextQueue s w speed i = arrive (run w speed) (sizeAt s i) (deadlineAt s i)
+
+-- states are queues, actions are the sheet's speeds, events are the places of its entries. A way may be in bearable queues alone; "each
+-- speed is at least w(1)"; "After slot T-1 remaining work costs nothing"
+unfoldable pub processOf : Counted → Process Queue
+processOf s =
+    record {
+      actions = speedsOf s;
+      alive = bearable (M s);
+      allowed = λ w speed. leb (total w 1) speed;
+      next = nextQueue s;
+      cost = λ w speed. energyOf s speed;
+      last = λ w. 0;
+    }
+
+-- "A speed is admissible in a queue when it is on the sheet, is at least w(1), and every entry of the sheet leads to a bearable queue"
+unfoldable pub admissible : Counted → Queue → ℕ → Bool
+admissible s w speed =
+    onSheet s speed && leb (total w 1) speed && everywhere (λ i. bearable (M s) (nextQueue s w speed i)) (s .jobCount)
+
+-- "The value of slot t and queue w is the least scaled energy of a good way over the last T-t slots, or none"
+abbrev pub IsValueAt : Counted → ℕ → Queue → Option ℕ → Type 0
+IsValueAt s t w r = IsValue (processOf s) (s .jobCount) (weightAt s) (s .horizon - t) w r
+
+-- what a speed costs there: the least scaled energy of a good way that begins with it
+abbrev pub IsCostAt : Counted → ℕ → Queue → ℕ → ℕ → Type 0
+IsCostAt s t w speed v = IsCost (processOf s) (s .jobCount) (weightAt s) (s .horizon - t) w speed v
+
+-- "none is written 2^64-1 in the values and 255 in the plan"
+
+abbrev pub noValue : ℕ
+noValue = 2 ^ 64 - 1
+
+abbrev pub noSpeed : ℕ
+noSpeed = 255
+
+-- what a place of the values says
+abbrev pub decoded : ℕ → Option ℕ
+decoded x = cond (eqb x noValue) none (some x)
+
+-- the value at a place of the lent values
+abbrev pub valueIn : List ℕ → ℕ → Option ℕ
+valueIn values place = decoded (getD values place 0)
+
+-- "The plan speed is the smallest first speed of a least good way": the plan byte of slot t and queue w, whose value is r
+abbrev pub IsPlanByte : Counted → ℕ → Queue → Option ℕ → ℕ → Type 0
+IsPlanByte s t w none byte = byte ≡ noSpeed
+IsPlanByte s t w (some v) byte = IsFirst (processOf s) (s .jobCount) (weightAt s) (s .horizon - t) w byte
+
+-- the bearable queue with number i
+abbrev pub queueAt : Counted → ℕ → Queue
+queueAt s i = getD (bearableQueues (M s) (s .bound)) i []
+
+-- "row t from place t times N"
+abbrev pub placeAt : Counted → ℕ → ℕ → ℕ
+placeAt s t i = t * N s + i
+
+-- how many places are lent: "values, (T+1) times N places of 64 bits ..; and the plan, T times N bytes"
+
+abbrev pub valuesNeeded : Counted → ℕ
+valuesNeeded s = suc (s .horizon) * N s
+
+abbrev pub planNeeded : Counted → ℕ
+planNeeded s = s .horizon * N s
+
+-- "Planner, writer and row: 4 to 10, 11"
+unfoldable pub planRefusal : Counted → ℕ → ℕ → ℕ
+planRefusal s valuesRoom planRoom =
+    sheetRefusal s then check (leb (valuesNeeded s) valuesRoom && leb (planNeeded s) planRoom) 11
+
+-- "12: planned, but the empty queue at slot 0 has none"
+abbrev pub number12 : Option ℕ → ℕ
+number12 none = 12
+number12 (some v) = 0
+
+abbrev pub orZero : Option ℕ → ℕ
+orZero none = 0
+orZero (some v) = v
+
+-- what the planner answers
+pub record PlanAnswer : Type 0 where
+  pub number : ℕ
+  pub queues : ℕ
+  pub least : ℕ
+
+-- one slot and queue: one r decides both places
+pub record Decided (s : Counted) (t i : ℕ) (atValue : Option ℕ) (byte : ℕ) : Type 0 where
+  pub r : Option ℕ
+  pub is-value : IsValueAt s t (queueAt s i) r
+  pub in-values : atValue ≡ r
+  pub in-plan : IsPlanByte s t (queueAt s i) r byte
+
+-- the number and the least energy: one r, the empty queue's at slot 0, decides both
+pub record FromEmpty (s : Counted) (a : PlanAnswer) : Type 0 where
+  pub r : Option ℕ
+  pub is-value : IsValueAt s 0 (emptyQueue (s .bound)) r
+  pub number : a .number ≡ number12 r
+  pub least : a .least ≡ orZero r
+
+-- the lent places after a plan that is not refused. `read` is how a value stands in the values
+pub record Filled (read : List ℕ → ℕ → Option ℕ) (s : Counted) (values₀ plan₀ values plan : List ℕ) (a : PlanAnswer) : Type 0 where
+  pub rows : (t i : ℕ) → t < s .horizon → i < N s → Decided s t i (read values (placeAt s t i)) (getD plan (placeAt s t i) 0)
+  -- row T
+  pub end-row : (i : ℕ) → i < N s → IsValueAt s (s .horizon) (queueAt s i) (read values (placeAt s (s .horizon) i))
+  -- "Places beyond are untouched"
+  pub values-length : length values ≡ length values₀
+  pub plan-length : length plan ≡ length plan₀
+  pub values-beyond : drop (valuesNeeded s) values ≡ drop (valuesNeeded s) values₀
+  pub plan-beyond : drop (planNeeded s) plan ≡ drop (planNeeded s) plan₀
+  -- N, and the empty queue's least energy at slot 0; 12 "fills both buffers and reports N, least energy 0"
+  pub queues : a .queues ≡ N s
+  pub empty : FromEmpty s a
+
+-- "A refused .. plan touches no lent place and reports zero for .. N and least energy"
+pub record Untouched (number : ℕ) (values₀ plan₀ values plan : List ℕ) (a : PlanAnswer) : Type 0 where
+  pub values-kept : values ≡ values₀
+  pub plan-kept : plan ≡ plan₀
+  pub answer : a ≡ record { number = number; queues = 0; least = 0 }
+
+abbrev pub LeavesBy : ℕ → (List ℕ → ℕ → Option ℕ) → Counted → (values₀ plan₀ values plan : List ℕ) → PlanAnswer → Type 0
+LeavesBy zero read s values₀ plan₀ values plan a = Filled read s values₀ plan₀ values plan a
+LeavesBy (suc number) read s values₀ plan₀ values plan a = Untouched (suc number) values₀ plan₀ values plan a
+
+-- what the planner leaves in the lent values and plan, and what it answers
+abbrev pub Leaves : (List ℕ → ℕ → Option ℕ) → Counted → (values₀ plan₀ values plan : List ℕ) → PlanAnswer → Type 0
+Leaves read s values₀ plan₀ values plan a =
+    LeavesBy (planRefusal s (length values₀) (length plan₀)) read s values₀ plan₀ values plan a
+
+-- "A row call answers the part of the caller's plan that belongs to slot t, and an empty part on any refusal or when t is not below T"
+
+unfoldable pub rowRefusal : Counted → ℕ → ℕ
+rowRefusal s room = sheetRefusal s then check (leb (planNeeded s) room) 11
+
+unfoldable pub row : Counted → List ℕ → ℕ → List ℕ
+row s plan t = cond (eqb (rowRefusal s (length plan)) 0 && ltb t (s .horizon)) (take (N s) (drop (placeAt s t 0) plan)) []

@@ -1,0 +1,90 @@
+-- Document 01, "Numbers returned", for a sheet. "A sheet in memory is tested 4 to 10 in that field order by every call": the reader's
+-- order, in which a field's "own range is tested before the next field".
+use Prim.Native.Nat.{ℕ, zero, suc, pred, _+_, _*_, _^_, _-_}
+use mathlib.Core.Bool.{Bool, _&&_}
+use lib.Dec.{leb, ltb, eqb}
+use Rattle.model.specs.Counted.{Counted, speedAt, energyAt, weightAt, sizeAt, deadlineAt, W, M, G}
+use Rattle.model.specs.Queue.{queueCount}
+use Rattle.model.specs.Tests.{check, _then_, within}
+
+-- the range of each field
+
+-- "Deadline bound D: 1 to 6"
+abbrev pub boundRight : ℕ → Bool
+boundRight D = within 1 6 D
+
+-- "Speeds: 2 to 9 of them"
+abbrev pub speedCountRight : ℕ → Bool
+speedCountRight n = within 2 9 n
+
+-- "strictly rising, the first 0, the largest M from 1 to 8": the speed at place j, after the speed `before`
+abbrev pub speedRight : ℕ → ℕ → ℕ → Bool
+speedRight zero before speed = eqb speed 0
+speedRight (suc j) before speed = ltb before speed && leb speed 8
+
+-- "Each has an energy per slot, 0 to 65,535"
+abbrev pub energyRight : ℕ → Bool
+energyRight energy = leb energy 65535
+
+-- "Horizon T: 1 to 200 slots"
+abbrev pub horizonRight : ℕ → Bool
+horizonRight T = within 1 200 T
+
+-- "Jobs: 1 to 32 entries"
+abbrev pub jobCountRight : ℕ → Bool
+jobCountRight n = within 1 32 n
+
+-- "Each has a weight 1 to 255, a size 0 to 255 and a deadline 1 to D"
+abbrev pub weightRight : ℕ → Bool
+weightRight weight = within 1 255 weight
+
+abbrev pub sizeRight : ℕ → Bool
+sizeRight size = leb size 255
+
+abbrev pub deadlineRight : ℕ → ℕ → Bool
+deadlineRight D deadline = within 1 D deadline
+
+-- 5 and 6 over the first j speeds: each speed, then its energy, then the next speed
+unfoldable pub speedsRefusal : Counted → ℕ → ℕ
+speedsRefusal s zero = 0
+speedsRefusal s (suc j) =
+    speedsRefusal s j then check (speedRight j (speedAt s (pred j)) (speedAt s j)) 5 then check (energyRight (energyAt s j)) 6
+
+-- 8 over the first i jobs
+unfoldable pub jobsRefusal : Counted → ℕ → ℕ
+jobsRefusal s zero = 0
+jobsRefusal s (suc i) =
+    jobsRefusal s i then check (weightRight (weightAt s i)) 8 then check (sizeRight (sizeAt s i)) 8 then
+    check (deadlineRight (s .bound) (deadlineAt s i)) 8
+
+-- "9: T times G times W to the power T exceeds 2^63-1": the factor (here T) and the limit are given
+unfoldable pub refusal9 : ℕ → ℕ → Counted → ℕ
+refusal9 factor limit s = check (leb (factor * G s * W s ^ s .horizon) limit) 9
+
+-- what the planner's largest value may be
+abbrev pub valueLimit : ℕ
+valueLimit = 2 ^ 63 - 1
+
+-- "10: N above 65,535"
+abbrev pub refusal10 : ℕ → ℕ
+refusal10 N = check (leb N 65535) 10
+
+-- N of a sheet
+unfoldable pub N : Counted → ℕ
+N s = queueCount (M s) (s .bound)
+
+-- 4 to 10 in field order, where the sheet's N is `queues`
+unfoldable pub refusalGiven : ℕ → Counted → ℕ
+refusalGiven queues s =
+    check (boundRight (s .bound)) 4 then
+    check (speedCountRight (s .speedCount)) 5 then
+    speedsRefusal s (s .speedCount) then
+    check (horizonRight (s .horizon)) 7 then
+    check (jobCountRight (s .jobCount)) 8 then
+    jobsRefusal s (s .jobCount) then
+    refusal9 (s .horizon) valueLimit s then
+    refusal10 queues
+
+-- the number of a sheet: 0, or the first of 4 to 10 whose test fails
+unfoldable pub sheetRefusal : Counted → ℕ
+sheetRefusal s = refusalGiven (N s) s

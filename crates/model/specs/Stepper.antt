@@ -1,0 +1,109 @@
+-- Document 01, "The stepper": start, speed and advance as functions from what they are given to what they answer, each with its order of
+-- refusals.
+use Prim.Native.Nat.{ℕ, zero, suc, _+_, _*_, _-_}
+use mathlib.Core.Bool.{Bool, cond, _&&_, not}
+use mathlib.Core.List.{List}
+use lib.Dec.{leb, ltb, eqb}
+use lib.ListN.{length, getD, take, replicate}
+use Rattle.model.specs.Counted.{Counted, sizeAt, deadlineAt, onSheet, energyOf, greatestEnergy, padded, M}
+use Rattle.model.specs.Plan.{placeAt, planNeeded}
+use Rattle.model.specs.Queue.{Queue, total, bearable, run, arrive, numberOf}
+use Rattle.model.specs.Refusal.{sheetRefusal, N}
+use Rattle.model.specs.Tests.{check, _then_, everywhere, anywhere}
+
+-- "A state has a queue, a slot number and the energy spent." The queue stands in six places: "Positions past D are unused and zero"
+pub record State : Type 0 where
+  pub queue : List ℕ
+  pub slot : ℕ
+  pub energy : ℕ
+
+abbrev pub positions : ℕ
+positions = 6
+
+-- "an all-zero state"
+abbrev pub zeroState : State
+zeroState = record { queue = replicate positions 0; slot = 0; energy = 0 }
+
+-- w(1) to w(D)
+abbrev pub queueOf : Counted → State → Queue
+queueOf s x = take (s .bound) (x .queue)
+
+-- of 13: "the queue falls or is not bearable, an unused position is not zero"
+unfoldable pub queueRight : Counted → State → Bool
+queueRight s x =
+    bearable (M s) (queueOf s x) && everywhere (λ i. eqb (getD (x .queue) (s .bound + i) 0) 0) (positions - s .bound)
+
+-- 13 whole: ".. the slot is above T, or the energy is above the slot number times the greatest energy"
+unfoldable pub stateRight : Counted → State → Bool
+stateRight s x = queueRight s x && leb (x .slot) (s .horizon) && leb (x .energy) (x .slot * greatestEnergy s)
+
+-- "Start takes a sheet and a queue and gives slot 0, energy 0"; "Start: 4 to 10, 13". The queue is the given state's; its slot and energy
+-- are not looked at
+
+pub record Stepped : Type 0 where
+  pub number : ℕ
+  pub state : State
+
+unfoldable pub startRefusal : Counted → State → ℕ
+startRefusal s x = sheetRefusal s then check (queueRight s x) 13
+
+-- "A refused start gives an all-zero state"
+unfoldable pub start : Counted → State → Stepped
+start s x =
+    let number = startRefusal s x in
+    record { number = number; state = cond (eqb number 0) (record { queue = x .queue; slot = 0; energy = 0 }) zeroState }
+
+-- "Speed reads the plan byte at the state's slot and queue number"
+unfoldable pub planByte : Counted → List ℕ → State → ℕ
+planByte s plan x = getD plan (placeAt s (x .slot) (numberOf (M s) (queueOf s x))) 0
+
+-- "16: the plan byte is no sheet speed, or is below w(1)"
+unfoldable pub byteRight : Counted → State → ℕ → Bool
+byteRight s x byte = onSheet s byte && leb (total (queueOf s x) 1) byte
+
+-- "Speed: 4 to 10, 11, 13, 14, 16"
+unfoldable pub speedRefusal : Counted → List ℕ → State → ℕ
+speedRefusal s plan x =
+    sheetRefusal s then
+    check (leb (planNeeded s) (length plan)) 11 then
+    check (stateRight s x) 13 then
+    check (not (eqb (x .slot) (s .horizon))) 14 then
+    check (byteRight s x (planByte s plan x)) 16
+
+pub record Told : Type 0 where
+  pub number : ℕ
+  pub speed : ℕ
+
+-- "A refused speed is 0"
+unfoldable pub speed : Counted → List ℕ → State → Told
+speed s plan x =
+    let number = speedRefusal s plan x in
+    record { number = number; speed = cond (eqb number 0) (planByte s plan x) 0 }
+
+-- "15: no entry has this size and deadline"
+unfoldable pub isEntry : Counted → ℕ → ℕ → Bool
+isEntry s size deadline = anywhere (λ i. eqb (sizeAt s i) size && eqb (deadlineAt s i) deadline) (s .jobCount)
+
+-- "it runs the slot at that speed, adds its energy, adds the job, and moves the slot on by one"
+unfoldable pub moved : Counted → State → ℕ → ℕ → ℕ → State
+moved s x byte size deadline =
+    record {
+      queue = padded positions 0 (arrive (run (queueOf s x) byte) size deadline);
+      slot = suc (x .slot);
+      energy = x .energy + energyOf s byte;
+    }
+
+-- "Advance: the same, then 15, 17, 18": "17: the next queue would not be bearable", "18: the new energy total would pass 4,294,967,295"
+unfoldable pub advanceRefusal : Counted → List ℕ → State → ℕ → ℕ → ℕ
+advanceRefusal s plan x size deadline =
+    let next = moved s x (planByte s plan x) size deadline in
+    speedRefusal s plan x then
+    check (isEntry s size deadline) 15 then
+    check (bearable (M s) (queueOf s next)) 17 then
+    check (leb (next .energy) 4294967295) 18
+
+-- "a refused advance hands back the state it got"
+unfoldable pub advance : Counted → List ℕ → State → ℕ → ℕ → Stepped
+advance s plan x size deadline =
+    let number = advanceRefusal s plan x size deadline in
+    record { number = number; state = cond (eqb number 0) (moved s x (planByte s plan x) size deadline) x }

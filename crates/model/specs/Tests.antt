@@ -1,0 +1,54 @@
+-- How document 01's tests are put together: a test with its number, several tests in order, and the small loops over places 0 to n-1
+-- that all the rules are said with.
+use Prim.Native.Nat.{ℕ, zero, suc, max}
+use mathlib.Core.Bool.{Bool, true, false, cond, _&&_, _||_}
+use mathlib.Core.List.{List, [], _∷_}
+use lib.Dec.{leb, ltb, eqb}
+
+-- a test that passes gives 0, one that fails gives its number
+abbrev pub check : Bool → ℕ → ℕ
+check passes number = cond passes 0 number
+
+-- tests in order: the number of the first that fails, 0 where all pass
+infixr 20 _then_
+abbrev pub _then_ : ℕ → ℕ → ℕ
+zero then later = later
+suc number then later = suc number
+
+-- lowest ≤ x ≤ highest
+abbrev pub within : ℕ → ℕ → ℕ → Bool
+within lowest highest x = leb lowest x && leb x highest
+
+-- the test holds at each place below n
+unfoldable pub everywhere : (ℕ → Bool) → ℕ → Bool
+everywhere test zero = true
+everywhere test (suc n) = everywhere test n && test n
+
+-- the test holds at some place below n
+unfoldable pub anywhere : (ℕ → Bool) → ℕ → Bool
+anywhere test zero = false
+anywhere test (suc n) = anywhere test n || test n
+
+-- the first place below n at which the test holds; n where there is none
+unfoldable pub firstPlace : (ℕ → Bool) → ℕ → ℕ
+firstPlace test zero = 0
+firstPlace test (suc n) =
+    let place = firstPlace test n in
+    cond (ltb place n) place (cond (test n) n (suc n))
+
+-- the greatest of f 0 to f (n - 1); 0 where n is 0
+unfoldable pub greatest : (ℕ → ℕ) → ℕ → ℕ
+greatest f zero = 0
+greatest f (suc n) = max (greatest f n) (f n)
+
+-- f 0, f 1, .., f (n - 1)
+unfoldable pub listed {ℓ} : {A : Type ℓ} → (ℕ → A) → ℕ → List A
+listed f zero = []
+listed f (suc n) = f zero ∷ listed (λ i. f (suc i)) n
+
+-- two lists of numbers are the same
+unfoldable pub same : List ℕ → List ℕ → Bool
+same [] [] = true
+same [] (y ∷ m) = false
+same (x ∷ l) [] = false
+same (x ∷ l) (y ∷ m) = eqb x y && same l m
