@@ -6,3 +6,4 @@ pub mod Bytes
 pub mod Reading
 pub mod Plan
 pub mod Stepper
+pub mod Cases

@@ -1,17 +1,17 @@
 -- Two theorems over values: a process that is as easy as another at paired events has values no greater, and no value exceeds what the
 -- greatest costs come to.
 use Prim.Native.Nat.{ℕ, zero, suc, _+_, _*_, _^_, _≤_, _<_}
-use mathlib.Core.Path.{_≡_, refl, sym, ap, ap₂, _∙_}
+use mathlib.Core.Path.{_≡_, refl, sym, ap₂, _∙_}
 use mathlib.Core.Option.{Option, none, some, Option·some-injective}
-use native.Mathlib.Nat.{zero-mul, one-mul, pow-zero, pow-suc, mul-le-mul-left, mul-comm, mul-one, zero-add, suc-mul, add-le-add, le-of-eq, le-trans}
+use native.Mathlib.Nat.{pow-zero, pow-suc, mul-le-mul-left, mul-comm, add-le-add, le-of-eq, le-trans}
 use native.Mathlib.Omega.{arith}
-use lib.Dec.{T}
 use Rattle.process.specs.Sums.{sum}
 use Rattle.process.specs.Ways.{Process, Among, IsValue}
 use Rattle.process.specs.Recursion.{value, plan, priced}
 use Rattle.process.specs.Pairing.{OneToOne, Eases}
 use Rattle.process.proofs.Sums.{sum-same, sum-le, sum-times, sum-paired}
-use Rattle.process.proofs.Value.{Upto, upto-le, held, only-some, only-upto, priced-some, priced-upto, value-some, value-upto, value-is, value-unique}
+use Rattle.process.proofs.Value.{Upto, upto-le, held, only-some, only-upto, priced-some}
+use Rattle.process.proofs.Value.{priced-upto, value-some, value-upto, value-is, value-unique}
 
 module _ {S S′ : Type 0} (P : Process S) (Q : Process S′) (n : ℕ) (w w′ : ℕ → ℕ) {there back : ℕ → ℕ} {R : S → S′ → Type 0}
     (o : OneToOne n there back) (even : (i : ℕ) → i < n → w′ (there i) ≡ w i) (E : Eases P Q n there R) where
@@ -24,11 +24,13 @@ module _ {S S′ : Type 0} (P : Process S) (Q : Process S′) (n : ℕ) (w w′ 
   scaled : (c d k : ℕ) → c ≤ d → sum w′ n ^ k * c ≤ sum w n ^ k * d
   scaled c d k h = rw (sym (sum-paired w′ o) ∙ sum-same n even) (mul-le-mul-left (sum w n ^ k) h)
 
+  -- Q's value is there and at most P's
   eased-upto : (k : ℕ) (x : S) (y : S′) → R x y → (u : ℕ) → value P n w k x ≡ some u → Upto (value Q n w′ k y) u
   unfolding value
   eased-upto zero x y r u e =
-      let a = only-some (P .alive x) (some (P .last x)) e in
-      only-upto (Q .alive y) (some (Q .last y)) u (E .alive x y r (a .0)) (omega (arith, E .last x y r (a .0), Option·some-injective (P .last x) u (a .1)))
+      let a = only-some (P .alive x) _ e in
+      only-upto (Q .alive y) (some (Q .last y)) u (E .alive x y r (a .0))
+      (omega (arith, E .last x y r (a .0), Option·some-injective (P .last x) u (a .1)))
   eased-upto (suc k) x y r u e =
       let f = value-some P n w k x e in
       let a = plan P n w (suc k) x in
@@ -64,7 +66,7 @@ module _ {S : Type 0} (P : Process S) (n : ℕ) (w : ℕ → ℕ) (G E : ℕ) wh
       (k : ℕ) (x : S) (v : ℕ) → value P n w k x ≡ some v → v ≤ (k * G + E) * sum w n ^ k
   unfolding value
   value-bounded g l zero x v e =
-      let a = only-some (P .alive x) (some (P .last x)) e in
+      let a = only-some (P .alive x) _ e in
       rw (pow-zero (sum w n)) (omega (arith, l x, Option·some-injective (P .last x) v (a .1)))
   value-bounded g l (suc k) x v e =
       let f = value-some P n w k x e in
@@ -73,7 +75,8 @@ module _ {S : Type 0} (P : Process S) (n : ℕ) (w : ℕ → ℕ) (G E : ℕ) wh
       let c = mul-le-mul-left (sum w n ^ suc k) (g x (plan P n w (suc k) x) (f .1 .0, f .1 .1, f .1 .2)) in
       let r : sum (λ i. w i * held (value P n w k (P .next x (plan P n w (suc k) x) i))) n ≤ sum (λ i. b * w i) n =
       sum-le n (λ i h. rw (mul-comm b (w i)) (mul-le-mul-left (w i) (value-bounded g l k _ _ (p .1 i h)))) in
-      le-trans (omega (arith, p .2, sum-times b w n)) (le-of-eq (rw pow-suc (scale (sum w n ^ k) (sum w n))))
+      let z : sum w n ^ suc k * G + b * sum w n ≡ (suc k * G + E) * sum w n ^ suc k = rw pow-suc (scale (sum w n ^ k) (sum w n)) in
+      omega (arith, p .2, sum-times b w n)
     where
       scale : (a s : ℕ) → a * s * G + (k * G + E) * a * s ≡ (suc k * G + E) * (a * s)
       scale a s = omega arith

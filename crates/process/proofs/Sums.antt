@@ -5,9 +5,10 @@ use mathlib.Core.Path.{_≡_, refl, sym, ap, _∙_, fun-ext}
 use mathlib.Core.Bool.{Bool, true, false, _&&_}
 use mathlib.Core.List.{List, [], _∷_}
 use mathlib.Core.Logic.{⊎-elim}
-use native.Mathlib.Nat.{add-zero, zero-add, mul-zero, mul-add, mul-assoc, mul-comm, mul-one, one-mul, zero-mul, pow-zero, pow-suc, mul-le-mul-left, add-le-add, eq-or-lt-of-le, not-suc-le-zero, le-of-suc-le-suc}
+use native.Mathlib.Nat.{add-zero, zero-add, mul-zero, mul-add, mul-comm, one-mul, zero-mul}
+use native.Mathlib.Nat.{pow-zero, pow-suc, add-le-add, eq-or-lt-of-le, not-suc-le-zero, le-of-suc-le-suc}
 use native.Mathlib.Omega.{arith}
-use lib.Dec.{T, eqb, eqb→eq, eqb-refl}
+use lib.Dec.{T, eqb}
 use borrow.Author.Tests.{eq-eqb, ne-eqb, eqb-true, eqb-false}
 use Rattle.process.specs.Sums.{sum, Events, overLists, weight}
 use Rattle.process.specs.Pairing.{OneToOne}

@@ -1,19 +1,21 @@
 -- That the backward induction of specs/Recursion.antt answers the published problem of specs/Ways.antt: its value is the least scaled
 -- energy of a good way, or none where no way is good, and its plan begins a least good way with the smallest action.
 use Prim.Native.Nat.{ℕ, zero, suc, _+_, _*_, _^_, _≤_, _<_}
-use mathlib.Core.Path.{_≡_, refl, sym, ap, _∙_, subst, fun-ext}
+use mathlib.Core.Path.{_≡_, refl, ap, _∙_, subst, fun-ext}
 use mathlib.Core.Bool.{Bool, true, false}
 use mathlib.Core.List.{List, [], _∷_}
 use mathlib.Core.Option.{Option, none, some, Option·getD, Option·some-injective, Option·none-ne-some}
 use mathlib.Core.Logic.{_⊎_, inl, inr, ⊎-elim, _↔_}
-use native.Mathlib.Nat.{pow-suc, mul-right-comm, one-mul, mul-le-mul-left, le-refl, le-of-lt, le-antisymm, add-le-add, not-suc-le-zero, le-of-suc-le-suc, eq-or-lt-of-le}
+use native.Mathlib.Nat.{pow-suc, mul-right-comm, one-mul, mul-le-mul-left, le-refl}
+use native.Mathlib.Nat.{le-of-lt, add-le-add, not-suc-le-zero, le-of-suc-le-suc, eq-or-lt-of-le}
 use native.Mathlib.Omega.{arith}
 use lib.Dec.{T, ltb}
 use lib.ListN.{length, getD, replicate}
 use borrow.Author.Tests.{ltb-true, ltb-false}
 use Rattle.process.specs.Sums.{sum, Events, overLists, weight}
-use Rattle.process.specs.Ways.{Process, Way, later, Among, Along, Good, spent, energy, IsLeastOf, IsValue, IsCost, IsLeast, IsFirst}
-use Rattle.process.specs.Recursion.{plus, times, total, only, Choice, nothing, chosen, choose, better, best, worth, actionOf, priced, choice, value, plan, ruled}
+use Rattle.process.specs.Ways.{Process, Way, later, Among, Along, Good, spent, energy, IsValue, IsCost, IsFirst}
+use Rattle.process.specs.Recursion.{plus, times, total, only, Choice, nothing, chosen, choose, better}
+use Rattle.process.specs.Recursion.{best, worth, actionOf, priced, choice, value, plan, ruled}
 use Rattle.process.specs.Pairing.{Rising}
 use Rattle.process.proofs.Sums.{sum-same, sum-add, sum-times, over-add, over-times, weights-total}
 
@@ -31,7 +33,7 @@ upto-le (some a) t h = omega arith
 abbrev pub held : Option ℕ → ℕ
 held r = Option·getD r 0
 
--- sums and multiples with none, taken apart and bounded
+-- what lets a number through, adds or multiplies one, taken apart (`-some`) and bounded (`-upto`)
 
 -- a test that lets a number through
 pub only-some : (b : Bool) (r : Option ℕ) {t : ℕ} → only b r ≡ some t → T b × (r ≡ some t)
@@ -68,17 +70,18 @@ module _ (w : ℕ → ℕ) (h : ℕ → Option ℕ) where
   unfolding total sum
   total-some zero {t} e = (λ i l. absurd (not-suc-le-zero l), Option·some-injective 0 t e)
   total-some (suc n) {t} e =
-      let p = plus-some (total (λ i. times (w i) (h i)) n) (times (w n) (h n)) e in
+      let p = plus-some _ _ e in
       let r = total-some n (p .0) in
       let q = times-some (w n) (h n) (p .1) in
       (λ i l. ⊎-elim (λ s. rw s (q .0)) (λ s. r .0 i s) (eq-or-lt-of-le (le-of-suc-le-suc l)), cc)
 
   -- a bound of each term bounds the weighted sum
-  total-upto : (n : ℕ) (u : ℕ → ℕ) → ((i : ℕ) → i < n → Upto (h i) (u i)) → Upto (total (λ i. times (w i) (h i)) n) (sum (λ i. w i * u i) n)
+  total-upto : (n : ℕ) (u : ℕ → ℕ) → ((i : ℕ) → i < n → Upto (h i) (u i)) →
+      Upto (total (λ i. times (w i) (h i)) n) (sum (λ i. w i * u i) n)
   unfolding total sum
   total-upto zero u t = le-refl 0
   total-upto (suc n) u t =
-      plus-upto (total (λ i. times (w i) (h i)) n) (times (w n) (h n)) (sum (λ i. w i * u i) n) (w n * u n)
+      plus-upto (total (λ i. times (w i) (h i)) n) (times (w n) (h n)) _ _
       (total-upto n u (λ i l. t i (omega arith))) (times-upto (w n) (h n) (u n) (t n (omega arith)))
 
 -- the least of several prices
@@ -185,8 +188,8 @@ module _ {S : Type 0} (P : Process S) (n : ℕ) (w : ℕ → ℕ) where
       (sum w n ^ suc k * P .cost x a + sum (λ i. w i * held (ahead (P .next x a i))) n ≡ v)
   unfolding priced
   priced-some k ahead x a e =
-      let o = only-some (P .allowed x a) (plus (some (sum w n ^ suc k * P .cost x a)) (total (λ i. times (w i) (ahead (P .next x a i))) n)) e in
-      let p = plus-some (some (sum w n ^ suc k * P .cost x a)) (total (λ i. times (w i) (ahead (P .next x a i))) n) (o .1) in
+      let o = only-some (P .allowed x a) _ e in
+      let p = plus-some (some (sum w n ^ suc k * P .cost x a)) _ (o .1) in
       let t = total-some w (λ i. ahead (P .next x a i)) n (p .1) in
       (o .0, t .0, cc)
 
@@ -196,9 +199,10 @@ module _ {S : Type 0} (P : Process S) (n : ℕ) (w : ℕ → ℕ) where
       Upto (priced P n w k ahead x a) (sum w n ^ suc k * P .cost x a + sum (λ i. w i * u i) n)
   unfolding priced
   priced-upto k ahead x a u t h =
-      only-upto (P .allowed x a) (plus (some (sum w n ^ suc k * P .cost x a)) (total (λ i. times (w i) (ahead (P .next x a i))) n)) _ t
-      (plus-upto (some (sum w n ^ suc k * P .cost x a)) (total (λ i. times (w i) (ahead (P .next x a i))) n) _ _ (le-refl _)
-      (total-upto w (λ i. ahead (P .next x a i)) n u h))
+      let rest : Option ℕ = total (λ i. times (w i) (ahead (P .next x a i))) n in
+      let c : ℕ = sum w n ^ suc k * P .cost x a in
+      only-upto (P .allowed x a) (plus (some c) rest) _ t
+      (plus-upto (some c) rest _ _ (le-refl c) (total-upto w (λ i. ahead (P .next x a i)) n u h))
 
   -- the value, taken apart: the state is alive, and the value is the price of the plan's action, the first that has it
   pub value-some : (k : ℕ) (x : S) {v : ℕ} → value P n w (suc k) x ≡ some v →
@@ -206,8 +210,9 @@ module _ {S : Type 0} (P : Process S) (n : ℕ) (w : ℕ → ℕ) where
       Found (priced P n w k (value P n w k) x) (P .actions) (length (P .actions)) (chosen (plan P n w (suc k) x) v)
   unfolding value plan choice
   value-some k x {v} e =
-      let o = only-some (P .alive x) (worth (choice P n w k (value P n w k) x)) e in
-      (o .0, go (choice P n w k (value P n w k) x) (best-found (priced P n w k (value P n w k) x) (P .actions) (length (P .actions))) (o .1))
+      let o = only-some (P .alive x) _ e in
+      let b = best-found (priced P n w k (value P n w k) x) (P .actions) (length (P .actions)) in
+      (o .0, go (choice P n w k (value P n w k) x) b (o .1))
     where
       go : (c : Choice) → Found (priced P n w k (value P n w k) x) (P .actions) (length (P .actions)) c → worth c ≡ some v →
           Found (priced P n w k (value P n w k) x) (P .actions) (length (P .actions)) (chosen (actionOf c) v)
@@ -231,7 +236,8 @@ module _ {S : Type 0} (P : Process S) (n : ℕ) (w : ℕ → ℕ) where
   reach-step k x σ l m e r =
       let p = priced-some k (value P n w k) x (σ []) e in (
         good-made k x σ l m (p .0) (λ i h. r i _ (p .1 i h) .0),
-        energy-step k x σ ∙ ap (λ s. sum w n ^ suc k * P .cost x (σ []) + s) (sum-same n (λ i h. ap (λ s. w i * s) (r i _ (p .1 i h) .1))) ∙ p .2,
+        energy-step k x σ ∙
+            ap (λ s. sum w n ^ suc k * P .cost x (σ []) + s) (sum-same n (λ i h. ap (λ s. w i * s) (r i _ (p .1 i h) .1))) ∙ p .2,
       )
 
   -- the plan's own way is good and costs the value
@@ -239,7 +245,7 @@ module _ {S : Type 0} (P : Process S) (n : ℕ) (w : ℕ → ℕ) where
       Good P n k x (ruled P (plan P n w) k x) × (energy P n w k x (ruled P (plan P n w) k x) ≡ v)
   unfolding value ruled energy overLists weight spent
   reach zero x v e =
-      let o = only-some (P .alive x) (some (P .last x)) e in
+      let o = only-some (P .alive x) _ e in
       (go (o .0), one-mul (P .last x) ∙ Option·some-injective (P .last x) v (o .1))
     where
       go : T (P .alive x) → (l : List ℕ) → Events n zero l → Along P x (ruled P (plan P n w) zero x) l
@@ -250,7 +256,8 @@ module _ {S : Type 0} (P : Process S) (n : ℕ) (w : ℕ → ℕ) where
       reach-step k x (ruled P (plan P n w) (suc k) x) (f .0) (f .1 .0, f .1 .1, f .1 .2) (f .1 .3) (λ i u q. reach k _ u q)
 
   -- a good way costs at least the price of its first action, if it is so with each event's rest
-  price-lower : 0 < n → (k : ℕ) (x : S) (σ : Way) → ((y : S) (τ : Way) → Good P n k y τ → Upto (value P n w k y) (energy P n w k y τ)) →
+  price-lower : 0 < n → (k : ℕ) (x : S) (σ : Way) →
+      ((y : S) (τ : Way) → Good P n k y τ → Upto (value P n w k y) (energy P n w k y τ)) →
       Good P n (suc k) x σ → Upto (priced P n w k (value P n w k) x (σ [])) (energy P n w (suc k) x σ)
   price-lower h k x σ r g =
       let s = good-step h k x σ g in
@@ -320,8 +327,9 @@ module _ {S : Type 0} (P : Process S) (n : ℕ) (w : ℕ → ℕ) where
         begins = refl;
         smallest = λ σ s.
             let t = good-step h k x σ (s .good) in
-            let d : ¬ (t .1 .0 < f .1 .0) = λ q.
-            omega (arith, r .1, s .least _ (r .0), f .1 .4 (t .1 .0) q (energy P n w (suc k) x σ) (rw (t .1 .2) (price-lower h k x σ (lower h k) (s .good)))) in
+            let p : Upto (priced P n w k (value P n w k) x (getD (P .actions) (t .1 .0) 0)) (energy P n w (suc k) x σ) =
+            rw (t .1 .2) (price-lower h k x σ (lower h k) (s .good)) in
+            let d : ¬ (t .1 .0 < f .1 .0) = λ q. omega (arith, r .1, s .least _ (r .0), f .1 .4 (t .1 .0) q _ p) in
             omega (arith, later-more (f .1 .0) (t .1 .0) (t .1 .1) d, f .1 .2, t .1 .2);
       }
     where
