@@ -7,9 +7,9 @@ use mathlib.Core.Logic.{⊎-elim, _⊎_, inl, inr}
 use native.Mathlib.Nat.{le-refl, le-trans, le-max-left, le-max-right, max-le, not-suc-le-zero, eq-or-lt-of-le, le-of-suc-le-suc, suc-ne-zero, lt-irrefl, not-le-of-lt}
 use native.Mathlib.Omega.{arith}
 use borrow.Author.Tests.{ltb-true, ltb-false}
-use lib.Dec.{T, ltb, eqb, eqb→eq, eqb-refl}
+use lib.Dec.{T, ltb}
 use lib.ListN.{length, getD}
-use Rattle.model.specs.Tests.{check, _then_, everywhere, anywhere, firstPlace, greatest, listed, same}
+use Rattle.model.specs.Tests.{check, _then_, everywhere, anywhere, firstPlace, greatest, listed}
 
 -- two tests together
 
@@ -154,19 +154,3 @@ first-upto test (suc n) i h t = go (firstPlace test n) (first-upto test n i) (lt
         let small : p ≤ i = ih l t in
         let large : n ≤ p = ltb-false p n e in
         absurd (not-le-of-lt l (le-trans large small))
-
--- same lists
-
-pub same-refl : (l : List ℕ) → T (same l l)
-unfolding same
-same-refl [] = tt
-same-refl (x ∷ l) = and-both (eqb x x) (same l l) (eqb-refl x) (same-refl l)
-
-pub same-true : (l m : List ℕ) → T (same l m) → l ≡ m
-unfolding same
-same-true [] [] t = refl
-same-true [] (y ∷ m) t = absurd t
-same-true (x ∷ l) [] t = absurd t
-same-true (x ∷ l) (y ∷ m) t =
-    ap (λ (z : ℕ). z ∷ l) (eqb→eq x y (and-left (eqb x y) (same l m) t)) ∙
-    ap (λ (r : List ℕ). y ∷ r) (same-true l m (and-right (eqb x y) (same l m) t))

@@ -5,10 +5,10 @@ use mathlib.Core.Path.{_≡_}
 use mathlib.Core.Bool.{Bool, true, false}
 use mathlib.Core.List.{List, [], _∷_, _++_}
 use mathlib.Core.Option.{Option, none, some}
-use lib.ListN.{length, getD, replicate, set}
+use lib.ListN.{length, getD, take, replicate, set}
 use Rattle.model.specs.Bytes.{code, sheetBytes, write, Written}
-use Rattle.model.specs.Counted.{Counted, padded}
-use Rattle.model.specs.Plan.{IsValueAt, IsCostAt, IsPlanByte, Decided, valueIn, noValue, noSpeed, admissible, row}
+use Rattle.model.specs.Counted.{Counted, counted, padded}
+use Rattle.model.specs.Plan.{IsValueAt, IsCostAt, IsPlanByte, Decided, FromEmpty, valueIn, admissible, row}
 use Rattle.model.specs.Queue.{Queue, emptyQueue, run, arrive, queueCount, numberOf, bearable}
 use Rattle.model.specs.Reading.{Answer, value, refused, field, read}
 use Rattle.model.specs.Refusal.{sheetRefusal, N}
@@ -19,8 +19,12 @@ use Rattle.model.specs.declared.Speed.{Speed}
 pub data Case : Type 0 where
   -- a row of values and a row of plan bytes are those of a sheet's slot, each queue in order
   planned : Counted → ℕ → List ℕ → List ℕ → Case
+  -- the value of a sheet's slot and a queue
+  worth : Counted → ℕ → Queue → Option ℕ → Case
   -- the value and the plan byte of a sheet's slot and a queue
   decides : Counted → ℕ → Queue → Option ℕ → ℕ → Case
+  -- what the planner answers for a sheet: the number, N and the least energy
+  answers : Counted → ℕ → ℕ → ℕ → Case
   -- what a speed costs in a sheet's slot and a queue
   costs : Counted → ℕ → Queue → ℕ → ℕ → Case
   -- the number of a sheet
@@ -39,7 +43,9 @@ pub data Case : Type 0 where
 abbrev pub Holds : Case → Type 0
 Holds (planned s t values plan) =
     (length values ≡ N s) × (length plan ≡ N s) × ((i : ℕ) → i < N s → Decided s t i (valueIn values i) (getD plan i 0))
+Holds (worth s t w r) = IsValueAt s t w r
 Holds (decides s t w r byte) = IsValueAt s t w r × IsPlanByte s t w r byte
+Holds (answers s number queues least) = FromEmpty s (record { number = number; queues = queues; least = least }) × (N s ≡ queues)
 Holds (costs s t w speed v) = IsCostAt s t w speed v
 Holds (refuses s number) = sheetRefusal s ≡ number
 Holds (counts M D n) = queueCount M D ≡ n
@@ -89,7 +95,7 @@ planA = A0 ++ A1
 abbrev pub hopeless : Counted
 hopeless = sheet 1 (at 0 0 ∷ at 1 1 ∷ []) 1 (job 1 2 1 ∷ [])
 
--- speeds 0 to m with energy 0, one empty job
+-- one job, and it is empty
 abbrev pub idle : ℕ → List Speed → ℕ → Counted
 idle D speeds T = sheet D speeds T (job 1 0 1 ∷ [])
 
@@ -99,10 +105,16 @@ upto5 = at 0 0 ∷ at 1 0 ∷ at 2 0 ∷ at 3 0 ∷ at 4 0 ∷ at 5 0 ∷ []
 abbrev pub upto6 : List Speed
 upto6 = upto5 ++ (at 6 0 ∷ [])
 
+-- "none is written 2^64-1 in the values", in digits
+abbrev pub none64 : ℕ
+none64 = 18446744073709551615
+
 -- the cases marked P
 unfoldable pub casesP : List Case
 casesP =
     -- "values of slot 0: 0 4 8 20 32 4 8 20 32 16 20 32", and the plan bytes of its listing
+    refuses A 0 ∷
+    answers A 0 12 0 ∷
     planned A 0 (0 ∷ 4 ∷ 8 ∷ 20 ∷ 32 ∷ 4 ∷ 8 ∷ 20 ∷ 32 ∷ 16 ∷ 20 ∷ 32 ∷ []) A0 ∷
     -- "At queue 1, speeds 0 and 1 both cost 4; 0 is given"
     numbers (numberOf 2 (0 ∷ 1 ∷ [])) 1 ∷
@@ -134,11 +146,227 @@ casesP =
     refuses (idle 5 upto5 1) 0 ∷
     counts 6 5 141778 ∷
     refuses (idle 5 upto6 1) 10 ∷
-    -- "D 1, speeds 0 and 1 .., T 1, one job (1, 2, 1): number 12, plan bytes 255 255": 12 since the empty queue at slot 0 has none
+    -- "D 1, speeds 0 and 1 .., T 1, one job (1, 2, 1): number 12, plan bytes 255 255"
     refuses hopeless 0 ∷
-    decides hopeless 0 (emptyQueue 1) none 255 ∷
-    planned hopeless 0 (noValue ∷ noValue ∷ []) (255 ∷ 255 ∷ []) ∷
+    answers hopeless 12 2 0 ∷
+    planned hopeless 0 (none64 ∷ none64 ∷ []) (255 ∷ 255 ∷ []) ∷
     -- document 000's first figure: "at time 4, before anything more, the queue is (0,0,1,3,3,3)"
     lists (run (arrive (run (arrive (run (arrive (run (arrive (emptyQueue 6) 2 4) 1) 1 5) 0) 2 6) 2) 2 4) 1)
     (0 ∷ 0 ∷ 1 ∷ 3 ∷ 3 ∷ 3 ∷ []) ∷
     []
+
+-- sheets of the cases that tell apart what is easy to get wrong
+
+abbrev pub ofA : List Job → Counted
+ofA jobs = sheet 2 (at 0 0 ∷ at 1 1 ∷ at 2 4 ∷ []) 2 jobs
+
+-- sheet A with an entry that stands there twice
+abbrev pub twice : Counted
+twice = ofA (job 1 0 1 ∷ job 1 2 2 ∷ job 1 2 2 ∷ [])
+
+-- energies that fall while speeds rise
+abbrev pub falling : Counted
+falling = sheet 2 (at 0 5 ∷ at 1 3 ∷ at 2 1 ∷ []) 2 (job 1 0 1 ∷ job 1 2 2 ∷ [])
+
+-- sheet A with all energies 0
+abbrev pub free : Counted
+free = sheet 2 (at 0 0 ∷ at 1 0 ∷ at 2 0 ∷ []) 2 (job 1 0 1 ∷ job 1 2 2 ∷ [])
+
+-- weights that differ, and queues with no plan among queues that have one
+abbrev pub uneven : Counted
+uneven = sheet 2 (at 0 0 ∷ at 1 2 ∷ at 2 5 ∷ []) 2 (job 3 0 1 ∷ job 2 1 1 ∷ [])
+
+-- two speeds, one job larger than a slot
+abbrev pub coarse : Counted
+coarse = sheet 2 (at 0 0 ∷ at 2 4 ∷ []) 2 (job 1 3 2 ∷ [])
+
+-- one job of weight 2, energies 0 and `energy`
+abbrev pub doubling : ℕ → ℕ → Counted
+doubling energy T = sheet 1 (at 0 0 ∷ at 1 energy ∷ []) T (job 2 0 1 ∷ [])
+
+-- a sheet that names 200 speeds where nine have room
+abbrev pub crowded : Counted
+crowded =
+    record { bound = 2; speedCount = 200; speeds = replicate 9 (at 0 0); horizon = 1; jobCount = 1; jobs = job 1 0 1 ∷ [] }
+
+abbrev pub bytesA : List ℕ
+bytesA =
+    0x02 ∷ 0x03 ∷ 0x00 ∷ 0x00 ∷ 0x01 ∷ 0x01 ∷ 0x02 ∷ 0x04 ∷ 0x02 ∷ 0x02 ∷ 0x01 ∷ 0x00 ∷ 0x01 ∷ 0x01 ∷ 0x02 ∷ 0x02 ∷ []
+
+-- plans and values
+unfoldable pub casesOfPlans : List Case
+casesOfPlans =
+    -- two equal entries both count
+    planned twice 0 (0 ∷ 9 ∷ 18 ∷ 45 ∷ 72 ∷ 9 ∷ 18 ∷ 45 ∷ 72 ∷ 36 ∷ 45 ∷ 72 ∷ []) A0 ∷
+    -- a dearer slow speed is no better for being slow
+    planned falling 0 (replicate 12 8) (replicate 12 2) ∷
+    planned falling 1 (replicate 12 2) (replicate 12 2) ∷
+    -- "Energies all zero": every value is 0, and the slowest speed that begins a good way is planned
+    planned free 0 (replicate 12 0) (0 ∷ 0 ∷ 0 ∷ 1 ∷ 2 ∷ 1 ∷ 1 ∷ 1 ∷ 2 ∷ 2 ∷ 2 ∷ 2 ∷ []) ∷
+    -- weights scale the energies of all later slots
+    planned uneven 0 (20 ∷ 70 ∷ 130 ∷ 205 ∷ none64 ∷ 70 ∷ 130 ∷ 205 ∷ none64 ∷ 145 ∷ 205 ∷ none64 ∷ [])
+    (0 ∷ 1 ∷ 1 ∷ 2 ∷ 255 ∷ 1 ∷ 1 ∷ 2 ∷ 255 ∷ 2 ∷ 2 ∷ 255 ∷ []) ∷
+    planned uneven 1 (0 ∷ 0 ∷ 10 ∷ 25 ∷ none64 ∷ 10 ∷ 10 ∷ 25 ∷ none64 ∷ 25 ∷ 25 ∷ none64 ∷ [])
+    (0 ∷ 0 ∷ 1 ∷ 2 ∷ 255 ∷ 1 ∷ 1 ∷ 2 ∷ 255 ∷ 2 ∷ 2 ∷ 255 ∷ []) ∷
+    answers uneven 0 12 20 ∷
+    -- (0,3) cannot be reached from empty, and is planned like any other
+    decides A 0 (0 ∷ 3 ∷ []) (some 20) 1 ∷
+    -- "row T of values is 0 for every bearable queue", and a queue that is not bearable has none
+    worth A 2 (2 ∷ 4 ∷ []) (some 0) ∷
+    worth A 2 (2 ∷ 5 ∷ []) none ∷
+    worth A 0 (3 ∷ 3 ∷ []) none ∷
+    -- at least w(1) is not enough: at (0,4) speed 1 leaves (3,3)
+    tests (admissible A (0 ∷ 4 ∷ []) 1) false ∷
+    tests (admissible A (0 ∷ 4 ∷ []) 2) true ∷
+    tests (admissible A (0 ∷ 0 ∷ []) 3) false ∷
+    tests (admissible A (1 ∷ 1 ∷ []) 0) false ∷
+    -- admissible is not good: both speeds are, and only 2 begins a good way, since 0 may lead to (1,4), which has none
+    tests (admissible coarse (0 ∷ 1 ∷ []) 0) true ∷
+    tests (admissible coarse (0 ∷ 1 ∷ []) 2) true ∷
+    decides coarse 1 (1 ∷ 4 ∷ []) none 255 ∷
+    decides coarse 0 (0 ∷ 1 ∷ []) (some 8) 2 ∷
+    -- a tie goes to the slower speed
+    decides (sheet 1 (at 0 7 ∷ at 1 7 ∷ []) 1 (job 1 0 1 ∷ [])) 0 (emptyQueue 1) (some 7) 0 ∷
+    -- the row of a slot, and the empty part
+    lists (row A planA 1) A1 ∷
+    lists (row A planA 2) [] ∷
+    lists (row A A0 0) [] ∷
+    lists (row crowded planA 0) [] ∷
+    []
+
+-- queues, their numbers and one slot
+unfoldable pub casesOfQueues : List Case
+casesOfQueues =
+    counts 1 1 2 ∷
+    counts 2 3 55 ∷
+    counts 8 2 117 ∷
+    counts 3 5 7084 ∷
+    -- D 6, whose first position has six left to fill, and the largest N
+    counts 2 6 7752 ∷
+    counts 8 6 9706503 ∷
+    -- after a slot D - 1 positions are left, which may be none
+    counts 5 0 1 ∷
+    numbers (numberOf 2 (emptyQueue 2)) 0 ∷
+    numbers (numberOf 2 (1 ∷ 3 ∷ [])) 7 ∷
+    numbers (numberOf 2 (2 ∷ 4 ∷ [])) 11 ∷
+    tests (bearable 2 (2 ∷ 4 ∷ [])) true ∷
+    tests (bearable 2 (3 ∷ 4 ∷ [])) false ∷
+    tests (bearable 2 (2 ∷ 5 ∷ [])) false ∷
+    tests (bearable 2 (2 ∷ 1 ∷ [])) false ∷
+    -- the last total stays at the shift; a slot is run on the totals, and not on each deadline's own work
+    lists (run (0 ∷ 2 ∷ []) 0) (2 ∷ 2 ∷ []) ∷
+    lists (run (1 ∷ 3 ∷ 6 ∷ []) 2) (1 ∷ 4 ∷ 4 ∷ []) ∷
+    lists (run (1 ∷ 3 ∷ 6 ∷ []) 5) (0 ∷ 1 ∷ 1 ∷ []) ∷
+    -- D 1: after a slot at a speed of at least w(1) nothing is left
+    lists (run (5 ∷ []) 5) (0 ∷ []) ∷
+    lists (arrive (0 ∷ 1 ∷ 1 ∷ []) 4 2) (0 ∷ 5 ∷ 5 ∷ []) ∷
+    []
+
+-- the numbers of a sheet in memory
+unfoldable pub casesOfRefusals : List Case
+casesOfRefusals =
+    refuses (idle 0 (at 1 0 ∷ []) 0) 4 ∷
+    refuses (idle 7 upto5 1) 4 ∷
+    refuses (idle 2 (at 0 0 ∷ []) 0) 5 ∷
+    refuses crowded 5 ∷
+    refuses (idle 2 (at 1 0 ∷ at 2 0 ∷ []) 1) 5 ∷
+    refuses (idle 2 (at 0 0 ∷ at 9 0 ∷ []) 1) 5 ∷
+    -- the energy of a speed is tested before the next speed, and after its own
+    refuses (idle 2 (at 0 70000 ∷ at 0 0 ∷ []) 1) 6 ∷
+    refuses (idle 2 (at 0 0 ∷ at 0 70000 ∷ []) 1) 5 ∷
+    refuses (idle 2 (at 0 0 ∷ at 1 65536 ∷ []) 1) 6 ∷
+    refuses (idle 2 (at 0 0 ∷ at 1 65535 ∷ []) 1) 0 ∷
+    refuses (idle 2 (at 0 0 ∷ at 1 65536 ∷ []) 0) 6 ∷
+    refuses (sheet 2 upto5 0 []) 7 ∷
+    refuses (sheet 2 upto5 201 []) 7 ∷
+    refuses (sheet 2 upto5 1 []) 8 ∷
+    -- both of two jobs are looked at
+    refuses (ofA (job 1 0 1 ∷ job 0 2 2 ∷ [])) 8 ∷
+    refuses (ofA (job 256 0 1 ∷ job 1 2 2 ∷ [])) 8 ∷
+    refuses (ofA (job 1 256 1 ∷ job 1 2 2 ∷ [])) 8 ∷
+    refuses (ofA (job 1 0 0 ∷ job 1 2 2 ∷ [])) 8 ∷
+    refuses (ofA (job 1 0 1 ∷ job 1 2 3 ∷ [])) 8 ∷
+    -- "One job of weight 2, greatest energy 1: T 57 is accepted, T 58 gives 9", and so where all energies are 0
+    refuses (doubling 1 57) 0 ∷
+    refuses (doubling 1 58) 9 ∷
+    refuses (doubling 0 57) 0 ∷
+    refuses (doubling 0 58) 9 ∷
+    -- 9 is told before 10, and 8 before 9
+    refuses (sheet 5 upto6 200 (job 255 0 1 ∷ [])) 9 ∷
+    refuses (sheet 5 upto6 200 (job 255 0 6 ∷ [])) 8 ∷
+    []
+
+-- bytes
+unfoldable pub casesOfBytes : List Case
+casesOfBytes =
+    lists (code 0) (0x00 ∷ []) ∷
+    lists (code 127) (0x7F ∷ []) ∷
+    lists (code 128) (0x80 ∷ 0x01 ∷ []) ∷
+    lists (code 16384) (0x80 ∷ 0x80 ∷ 0x01 ∷ []) ∷
+    lists (code 65535) (0xFF ∷ 0xFF ∷ 0x03 ∷ []) ∷
+    fields (field [] 0) (refused 1) ∷
+    fields (field (0x00 ∷ 0x05 ∷ []) 0) (value 0 1) ∷
+    fields (field (0x00 ∷ 0x05 ∷ []) 1) (value 5 2) ∷
+    fields (field (0x80 ∷ 0x80 ∷ []) 0) (refused 1) ∷
+    fields (field (0x80 ∷ 0x80 ∷ 0x00 ∷ []) 0) (refused 2) ∷
+    fields (field (0x80 ∷ 0x80 ∷ 0x01 ∷ []) 0) (value 16384 3) ∷
+    fields (field (0xFF ∷ 0xFF ∷ 0x7F ∷ []) 0) (value 2097151 3) ∷
+    fields (field (0xFF ∷ 0xFF ∷ 0xFF ∷ 0x01 ∷ []) 0) (refused 2) ∷
+    lists (sheetBytes A) bytesA ∷
+    numbers (read bytesA .number) 0 ∷
+    lists (sheetBytes (counted (read bytesA .sheet))) bytesA ∷
+    numbers (read [] .number) 1 ∷
+    -- a field's own range is tested before the next field is read
+    numbers (read (0x07 ∷ []) .number) 4 ∷
+    numbers (read (0x02 ∷ []) .number) 1 ∷
+    numbers (read (0x02 ∷ 0x02 ∷ 0x00 ∷ 0xF0 ∷ 0xA2 ∷ 0x04 ∷ 0x00 ∷ 0x00 ∷ []) .number) 6 ∷
+    numbers (read (bytesA ++ (0x00 ∷ [])) .number) 3 ∷
+    numbers (read (take 15 bytesA) .number) 1 ∷
+    numbers (read (set bytesA 15 0x03) .number) 8 ∷
+    -- eleven: a buffer of fifteen; places past the length stay
+    lists (write A (replicate 15 7) .buffer) (replicate 15 7) ∷
+    numbers (write A (replicate 15 7) .number) 11 ∷
+    numbers (write A (replicate 15 7) .written) 0 ∷
+    lists (write A (replicate 17 7) .buffer) (bytesA ++ (7 ∷ [])) ∷
+    numbers (write A (replicate 17 7) .number) 0 ∷
+    numbers (write A (replicate 17 7) .written) 16 ∷
+    []
+
+-- the stepper
+unfoldable pub casesOfSteps : List Case
+casesOfSteps =
+    -- the slot and the energy of the state that a run starts from are not looked at
+    steps (start A (state (0 ∷ 2 ∷ []) 7 99)) 0 (state (0 ∷ 2 ∷ []) 0 0) ∷
+    -- 13: falling, not bearable, a number that would wrap, an unused position; a refused start gives zeros
+    steps (start A (state (2 ∷ 1 ∷ []) 0 0)) 13 zeroState ∷
+    steps (start A (state (0 ∷ 5 ∷ []) 0 0)) 13 zeroState ∷
+    steps (start A (state (0 ∷ 4294967295 ∷ []) 0 0)) 13 zeroState ∷
+    steps (start A (state (0 ∷ 0 ∷ 1 ∷ []) 0 0)) 13 zeroState ∷
+    steps (start crowded (state (0 ∷ 5 ∷ []) 0 0)) 5 zeroState ∷
+    -- 11 asks for the whole plan whatever the slot, before 13 and 14
+    tells (speed A A0 (state (0 ∷ 5 ∷ []) 9 0)) 11 0 ∷
+    tells (speed A (planA ++ (7 ∷ [])) (state (0 ∷ 2 ∷ []) 0 0)) 0 1 ∷
+    -- a slot above T is 13, and slot T is 14
+    tells (speed A planA (state (0 ∷ 2 ∷ []) 3 0)) 13 0 ∷
+    tells (speed A planA (state (0 ∷ 2 ∷ []) 2 0)) 14 0 ∷
+    -- the energy is at most the slot number times the greatest energy, which is 0 where all energies are
+    tells (speed A planA (state (0 ∷ 2 ∷ []) 1 4)) 0 0 ∷
+    tells (speed A planA (state (0 ∷ 2 ∷ []) 1 5)) 13 0 ∷
+    tells (speed free planA (state (0 ∷ 0 ∷ []) 1 1)) 13 0 ∷
+    tells (speed free planA (state (0 ∷ 0 ∷ []) 1 0)) 0 0 ∷
+    tells (speed falling planA (state (0 ∷ 0 ∷ []) 1 5)) 0 0 ∷
+    -- a queue that has no plan starts, and is then refused a speed
+    steps (start hopeless (state (1 ∷ []) 0 0)) 0 (state (1 ∷ []) 0 0) ∷
+    tells (speed hopeless (255 ∷ 255 ∷ []) (state (1 ∷ []) 0 0)) 16 0 ∷
+    -- a damaged plan: 16 is no speed of the sheet or one below w(1), and not an inadmissible one, which 17 stops
+    tells (speed A (set planA 4 0) (state (0 ∷ 4 ∷ []) 0 0)) 0 0 ∷
+    steps (advance A (set planA 4 0) (state (0 ∷ 4 ∷ []) 0 0) 0 1) 17 (state (0 ∷ 4 ∷ []) 0 0) ∷
+    steps (advance A (set planA 4 0) (state (0 ∷ 4 ∷ []) 0 0) 1 1) 15 (state (0 ∷ 4 ∷ []) 0 0) ∷
+    steps (advance A (set planA 4 3) (state (0 ∷ 4 ∷ []) 0 0) 1 1) 16 (state (0 ∷ 4 ∷ []) 0 0) ∷
+    tells (speed A (set planA 5 0) (state (1 ∷ 1 ∷ []) 0 0)) 16 0 ∷
+    -- 15 asks for an entry with this size and this deadline together
+    steps (advance A planA (state (0 ∷ 2 ∷ []) 0 0) 2 1) 15 (state (0 ∷ 2 ∷ []) 0 0) ∷
+    []
+
+unfoldable pub cases : List Case
+cases = casesP ++ (casesOfPlans ++ (casesOfQueues ++ (casesOfRefusals ++ (casesOfBytes ++ casesOfSteps))))

@@ -4,8 +4,8 @@ use mathlib.Core.Bool.{Bool, cond, _&&_}
 use mathlib.Core.List.{List, [], _∷_, _++_, map}
 use lib.Dec.{leb}
 use lib.ListN.{length, getD}
-use Rattle.process.specs.Sums.{sum}
-use Rattle.model.specs.Tests.{everywhere, listed, same}
+use Rattle.process.specs.Sums.{sum, same}
+use Rattle.model.specs.Tests.{everywhere, listed}
 
 -- "A queue is w(1) to w(D), never falling; w(u) is the work that must be done within u slots": a list of D totals
 abbrev pub Queue : Type 0

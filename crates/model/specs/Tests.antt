@@ -3,7 +3,7 @@
 use Prim.Native.Nat.{ℕ, zero, suc, max}
 use mathlib.Core.Bool.{Bool, true, false, cond, _&&_, _||_}
 use mathlib.Core.List.{List, [], _∷_}
-use lib.Dec.{leb, ltb, eqb}
+use lib.Dec.{leb, ltb}
 
 -- a test that passes gives 0, one that fails gives its number
 abbrev pub check : Bool → ℕ → ℕ
@@ -45,10 +45,3 @@ greatest f (suc n) = max (greatest f n) (f n)
 unfoldable pub listed {ℓ} : {A : Type ℓ} → (ℕ → A) → ℕ → List A
 listed f zero = []
 listed f (suc n) = f zero ∷ listed (λ i. f (suc i)) n
-
--- two lists of numbers are the same
-unfoldable pub same : List ℕ → List ℕ → Bool
-same [] [] = true
-same [] (y ∷ m) = false
-same (x ∷ l) [] = false
-same (x ∷ l) (y ∷ m) = eqb x y && same l m

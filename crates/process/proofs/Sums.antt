@@ -10,7 +10,7 @@ use native.Mathlib.Nat.{pow-zero, pow-suc, add-le-add, eq-or-lt-of-le, not-suc-l
 use native.Mathlib.Omega.{arith}
 use lib.Dec.{T, eqb}
 use borrow.Author.Tests.{eq-eqb, ne-eqb, eqb-true, eqb-false}
-use Rattle.process.specs.Sums.{sum, Events, overLists, weight}
+use Rattle.process.specs.Sums.{sum, Events, overLists, weight, same}
 use Rattle.process.specs.Pairing.{OneToOne}
 
 -- terms that are equal below n have equal sums
@@ -104,13 +104,6 @@ weights-total n zero w = sym (pow-zero (sum w n))
 weights-total n (suc k) w =
     sum-same n (λ i h. over-times n k (w i) (weight w) ∙ ap (λ s. w i * s) (weights-total n k w) ∙ mul-comm (w i) (sum w n ^ k)) ∙
     sum-times (sum w n ^ k) w n ∙ sym (pow-suc (sum w n) k)
-
--- whether two lists are equal
-unfoldable pub same : List ℕ → List ℕ → Bool
-same [] [] = true
-same [] (j ∷ m) = false
-same (i ∷ l) [] = false
-same (i ∷ l) (j ∷ m) = eqb i j && same l m
 
 -- lists that pass the test are equal
 pub same-true : (l m : List ℕ) → T (same l m) → l ≡ m

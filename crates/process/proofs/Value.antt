@@ -14,7 +14,7 @@ use lib.ListN.{length, getD, replicate}
 use borrow.Author.Tests.{ltb-true, ltb-false}
 use Rattle.process.specs.Sums.{sum, Events, overLists, weight}
 use Rattle.process.specs.Ways.{Process, Way, later, Among, Along, Good, spent, energy, IsValue, IsCost, IsFirst}
-use Rattle.process.specs.Recursion.{plus, times, total, only, Choice, nothing, chosen, choose, better}
+use Rattle.process.specs.Recursion.{plus, times, sumOrNone, only, Choice, nothing, chosen, choose, better}
 use Rattle.process.specs.Recursion.{best, worth, actionOf, priced, choice, value, plan, ruled}
 use Rattle.process.specs.Pairing.{Rising}
 use Rattle.process.proofs.Sums.{sum-same, sum-add, sum-times, over-add, over-times, weights-total}
@@ -65,24 +65,24 @@ times-upto m (some v) u t = mul-le-mul-left m t
 
 module _ (w : ℕ → ℕ) (h : ℕ → Option ℕ) where
   -- where a weighted sum is there, so is each term, and it is their sum
-  total-some : (n : ℕ) {t : ℕ} → total (λ i. times (w i) (h i)) n ≡ some t →
+  sum-some : (n : ℕ) {t : ℕ} → sumOrNone (λ i. times (w i) (h i)) n ≡ some t →
       ((i : ℕ) → i < n → h i ≡ some (held (h i))) × (sum (λ i. w i * held (h i)) n ≡ t)
-  unfolding total sum
-  total-some zero {t} e = (λ i l. absurd (not-suc-le-zero l), Option·some-injective 0 t e)
-  total-some (suc n) {t} e =
+  unfolding sumOrNone sum
+  sum-some zero {t} e = (λ i l. absurd (not-suc-le-zero l), Option·some-injective 0 t e)
+  sum-some (suc n) {t} e =
       let p = plus-some _ _ e in
-      let r = total-some n (p .0) in
+      let r = sum-some n (p .0) in
       let q = times-some (w n) (h n) (p .1) in
       (λ i l. ⊎-elim (λ s. rw s (q .0)) (λ s. r .0 i s) (eq-or-lt-of-le (le-of-suc-le-suc l)), cc)
 
   -- a bound of each term bounds the weighted sum
-  total-upto : (n : ℕ) (u : ℕ → ℕ) → ((i : ℕ) → i < n → Upto (h i) (u i)) →
-      Upto (total (λ i. times (w i) (h i)) n) (sum (λ i. w i * u i) n)
-  unfolding total sum
-  total-upto zero u t = le-refl 0
-  total-upto (suc n) u t =
-      plus-upto (total (λ i. times (w i) (h i)) n) (times (w n) (h n)) _ _
-      (total-upto n u (λ i l. t i (omega arith))) (times-upto (w n) (h n) (u n) (t n (omega arith)))
+  sum-upto : (n : ℕ) (u : ℕ → ℕ) → ((i : ℕ) → i < n → Upto (h i) (u i)) →
+      Upto (sumOrNone (λ i. times (w i) (h i)) n) (sum (λ i. w i * u i) n)
+  unfolding sumOrNone sum
+  sum-upto zero u t = le-refl 0
+  sum-upto (suc n) u t =
+      plus-upto (sumOrNone (λ i. times (w i) (h i)) n) (times (w n) (h n)) _ _
+      (sum-upto n u (λ i l. t i (omega arith))) (times-upto (w n) (h n) (u n) (t n (omega arith)))
 
 -- the least of several prices
 
@@ -190,7 +190,7 @@ module _ {S : Type 0} (P : Process S) (n : ℕ) (w : ℕ → ℕ) where
   priced-some k ahead x a e =
       let o = only-some (P .allowed x a) _ e in
       let p = plus-some (some (sum w n ^ suc k * P .cost x a)) _ (o .1) in
-      let t = total-some w (λ i. ahead (P .next x a i)) n (p .1) in
+      let t = sum-some w (λ i. ahead (P .next x a i)) n (p .1) in
       (o .0, t .0, cc)
 
   -- an action's price, bounded
@@ -199,10 +199,10 @@ module _ {S : Type 0} (P : Process S) (n : ℕ) (w : ℕ → ℕ) where
       Upto (priced P n w k ahead x a) (sum w n ^ suc k * P .cost x a + sum (λ i. w i * u i) n)
   unfolding priced
   priced-upto k ahead x a u t h =
-      let rest : Option ℕ = total (λ i. times (w i) (ahead (P .next x a i))) n in
+      let rest : Option ℕ = sumOrNone (λ i. times (w i) (ahead (P .next x a i))) n in
       let c : ℕ = sum w n ^ suc k * P .cost x a in
       only-upto (P .allowed x a) (plus (some c) rest) _ t
-      (plus-upto (some c) rest _ _ (le-refl c) (total-upto w (λ i. ahead (P .next x a i)) n u h))
+      (plus-upto (some c) rest _ _ (le-refl c) (sum-upto w (λ i. ahead (P .next x a i)) n u h))
 
   -- the value, taken apart: the state is alive, and the value is the price of the plan's action, the first that has it
   pub value-some : (k : ℕ) (x : S) {v : ℕ} → value P n w (suc k) x ≡ some v →

@@ -21,9 +21,9 @@ times m none = none
 times m (some v) = some (m * v)
 
 -- f 0 + f 1 + .. + f (n - 1)
-unfoldable pub total : (ℕ → Option ℕ) → ℕ → Option ℕ
-total f zero = some 0
-total f (suc n) = plus (total f n) (f n)
+unfoldable pub sumOrNone : (ℕ → Option ℕ) → ℕ → Option ℕ
+sumOrNone f zero = some 0
+sumOrNone f (suc n) = plus (sumOrNone f n) (f n)
 
 abbrev pub only : Bool → Option ℕ → Option ℕ
 only true r = r
@@ -60,7 +60,7 @@ actionOf (chosen a v) = a
 -- what an action costs, with k slots left after it, where `ahead` is the value of each state then
 unfoldable pub priced : {S : Type 0} → Process S → ℕ → (ℕ → ℕ) → ℕ → (S → Option ℕ) → S → ℕ → Option ℕ
 priced P n w k ahead x a =
-    only (P .allowed x a) (plus (some (sum w n ^ suc k * P .cost x a)) (total (λ i. times (w i) (ahead (P .next x a i))) n))
+    only (P .allowed x a) (plus (some (sum w n ^ suc k * P .cost x a)) (sumOrNone (λ i. times (w i) (ahead (P .next x a i))) n))
 
 -- the least over the actions, with k slots left after this one
 unfoldable pub choice : {S : Type 0} → Process S → ℕ → (ℕ → ℕ) → ℕ → (S → Option ℕ) → S → Choice

@@ -1,6 +1,8 @@
 -- Sums, and what a list of events weighs: the arithmetic that the definition of a way's energy stands on.
 use Prim.Native.Nat.{ℕ, zero, suc, _+_, _*_, _<_}
+use mathlib.Core.Bool.{Bool, true, false, _&&_}
 use mathlib.Core.List.{List, [], _∷_}
+use lib.Dec.{eqb}
 
 -- f 0 + f 1 + .. + f (n - 1)
 unfoldable pub sum : (ℕ → ℕ) → ℕ → ℕ
@@ -23,3 +25,10 @@ overLists n (suc k) f = sum (λ i. overLists n k (λ l. f (i ∷ l))) n
 unfoldable pub weight : (ℕ → ℕ) → List ℕ → ℕ
 weight w [] = 1
 weight w (i ∷ l) = w i * weight w l
+
+-- whether two lists of numbers are the same
+unfoldable pub same : List ℕ → List ℕ → Bool
+same [] [] = true
+same [] (j ∷ m) = false
+same (i ∷ l) [] = false
+same (i ∷ l) (j ∷ m) = eqb i j && same l m
