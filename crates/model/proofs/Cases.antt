@@ -9,7 +9,7 @@ use native.Mathlib.Omega.{arith}
 use lib.Dec.{T, eqb, leb, ltb, eqb→eq}
 use lib.ListN.{length, getD}
 use Rattle.process.specs.Sums.{sum, same}
-use Rattle.process.specs.Recursion.{sumOrNone, best, priced, choice, value, plan}
+use Rattle.process.specs.Recursion.{sumOrNone, cheaper, best, priced, choice, value, plan}
 use Rattle.process.specs.Ways.{IsValue, IsCost, IsFirst}
 use Rattle.process.proofs.Sums.{same-true}
 use Rattle.process.proofs.Value.{value-is, first-is, cost-is}
@@ -135,9 +135,11 @@ module _ (s : Counted) (ok : sheetRefusal s ≡ 0) where
   value-sound : (k : ℕ) (w : Queue) (r : Option ℕ) → T (sameOption (valueFor s k w) r) →
       (valueFor s k w ≡ r) × IsValue (processOf s) (s .jobCount) (weightAt s) k w r
   value-sound k w r t =
-      let e : valueFor s k w ≡ r = sameOption-true (valueFor s k w) r t in
-      (e, subst (IsValue (processOf s) (s .jobCount) (weightAt s) k w) e
-      (value-is (processOf s) (s .jobCount) (weightAt s) (accepted s ok .jobs-low) k w))
+      let e : valueFor s k w ≡ r = sameOption-true (valueFor s k w) r t in (
+        e,
+        subst (IsValue (processOf s) (s .jobCount) (weightAt s) k w) e
+            (value-is (processOf s) (s .jobCount) (weightAt s) (accepted s ok .jobs-low) k w),
+      )
 
   first-sound : (k : ℕ) (w : Queue) (v byte : ℕ) → valueFor s k w ≡ some v → T (byteTest s k w (some v) byte) →
       IsFirst (processOf s) (s .jobCount) (weightAt s) k w byte
@@ -198,13 +200,14 @@ planned-sound : (s : Counted) (t : ℕ) (values plan : List ℕ) → T (test (pl
 unfolding test rowTest
 planned-sound s t values plan b =
     let n = quickN s in
-    let told = and-four (accepts s) (eqb (length values) n) (eqb (length plan) n) (everywhere (rowTest s t values plan) n) b in
-    (eqb→eq (length values) n (told .1) ∙ sym (quickN-is s),
-    eqb→eq (length plan) n (told .2) ∙ sym (quickN-is s),
-    λ i h.
-    let tested = everywhere-at (rowTest s t values plan) n (told .3) i (subst (λ (m : ℕ). i < m) (quickN-is s) h) in
-    let decided = decides-sound s (accepts-true s (told .0)) t (queueAt s i) (valueIn values i) (getD plan i 0) tested in
-    record { r = valueIn values i; is-value = decided .0; in-values = refl; in-plan = decided .1 })
+    let told = and-four (accepts s) (eqb (length values) n) (eqb (length plan) n) (everywhere (rowTest s t values plan) n) b in (
+      eqb→eq (length values) n (told .1) ∙ sym (quickN-is s),
+      eqb→eq (length plan) n (told .2) ∙ sym (quickN-is s),
+      λ i h.
+          let tested = everywhere-at (rowTest s t values plan) n (told .3) i (subst (λ (m : ℕ). i < m) (quickN-is s) h) in
+          let decided = decides-sound s (accepts-true s (told .0)) t (queueAt s i) (valueIn values i) (getD plan i 0) tested in
+          record { r = valueIn values i; is-value = decided .0; in-values = refl; in-plan = decided .1 },
+    )
 
 -- a case whose test passes holds
 sound : (c : Case) → T (test c) → Holds c
@@ -218,27 +221,30 @@ sound (decides s t w r byte) b =
     (and-right (accepts s) (decidesTest s (s .horizon - t) w r byte) b)
 sound (answers s number queues least) b =
     let r = valueFor s (s .horizon - 0) (emptyQueue (s .bound)) in
-    let told = and-four (accepts s) (eqb number (number12 r)) (eqb least (orZero r)) (eqb (quickN s) queues) b in
-    (record {
-      r = r;
-      is-value =
-          value-is (processOf s) (s .jobCount) (weightAt s) (accepted s (accepts-true s (told .0)) .jobs-low) (s .horizon - 0) (emptyQueue (s .bound));
-      number = eqb→eq number (number12 r) (told .1);
-      least = eqb→eq least (orZero r) (told .2)
-    },
-    quickN-is s ∙ eqb→eq (quickN s) queues (told .3))
+    let told = and-four (accepts s) (eqb number (number12 r)) (eqb least (orZero r)) (eqb (quickN s) queues) b in (
+      record {
+        r = r;
+        is-value =
+            value-is (processOf s) (s .jobCount) (weightAt s) (accepted s (accepts-true s (told .0)) .jobs-low) (s .horizon - 0) (emptyQueue (s .bound));
+        number = eqb→eq number (number12 r) (told .1);
+        least = eqb→eq least (orZero r) (told .2);
+      },
+      quickN-is s ∙ eqb→eq (quickN s) queues (told .3),
+    )
 sound (costs s t w a v) b =
     cost-sound s (accepts-true s (and-left (accepts s) (costTest s (s .horizon - t) w a v) b)) (s .horizon - t) w a v
     (and-right (accepts s) (costTest s (s .horizon - t) w a v) b)
 sound (refuses s number) b = refusal-is s ∙ eqb→eq (refusalGiven (quickN s) s) number b
 sound (counts M D n) b = queue-count M D ∙ eqb→eq (continuationCount M D 0) n b
 sound (fields found expected) b = sameAnswer-true found expected b
-sound (steps answer number state) b =
-    (eqb→eq (answer .number) number (and-left (eqb (answer .number) number) (sameState (answer .state) state) b),
-    sameState-true (answer .state) state (and-right (eqb (answer .number) number) (sameState (answer .state) state) b))
-sound (tells answer number speed) b =
-    (eqb→eq (answer .number) number (and-left (eqb (answer .number) number) (eqb (answer .speed) speed) b),
-    eqb→eq (answer .speed) speed (and-right (eqb (answer .number) number) (eqb (answer .speed) speed) b))
+sound (steps answer number state) b = (
+  eqb→eq (answer .number) number (and-left (eqb (answer .number) number) (sameState (answer .state) state) b),
+  sameState-true (answer .state) state (and-right (eqb (answer .number) number) (sameState (answer .state) state) b),
+)
+sound (tells answer number speed) b = (
+  eqb→eq (answer .number) number (and-left (eqb (answer .number) number) (eqb (answer .speed) speed) b),
+  eqb→eq (answer .speed) speed (and-right (eqb (answer .number) number) (eqb (answer .speed) speed) b),
+)
 sound (numbers found expected) b = eqb→eq found expected b
 sound (lists found expected) b = same-true found expected b
 sound (tests found expected) b = sameBool-true found expected b
@@ -255,5 +261,5 @@ allTest-sound (c ∷ rest) b =
 
 -- all the cases: those of document 01 that are marked P, and ours
 pub cases-hold : AllHold cases
-unfolding cases casesP casesOfPlans casesOfQueues casesOfRefusals casesOfBytes casesOfSteps allTest test quickN accepts byteTest decidesTest costTest rowTest sameOption sameAnswer sameState sameBool sum sumOrNone best priced choice value plan codeIn speedBytes jobBytes sheetBytes writeRefusal write speedsOf onSheet energyOf W M greatestEnergy G nextQueue processOf admissible planRefusal rowRefusal row bearable run arrive eachTotal continuations bearableQueues queueCount placeIn numberOf continuationCount numberIn readSpeeds readJobs readCounted read speedsRefusal jobsRefusal refusal9 N refusalGiven sheetRefusal queueRight stateRight startRefusal start planByte byteRight speedRefusal speed isEntry moved advanceRefusal advance everywhere anywhere firstPlace greatest listed same
+unfolding cases casesP casesOfPlans casesOfQueues casesOfRefusals casesOfBytes casesOfSteps allTest test quickN accepts byteTest decidesTest costTest rowTest sameOption sameAnswer sameState sameBool sum sumOrNone cheaper best priced choice value plan codeIn speedBytes jobBytes sheetBytes writeRefusal write speedsOf onSheet energyOf W M greatestEnergy G nextQueue processOf admissible planRefusal rowRefusal row bearable run arrive eachTotal continuations bearableQueues queueCount placeIn numberOf continuationCount numberIn readSpeeds readJobs readCounted read speedsRefusal jobsRefusal refusal9 N refusalGiven sheetRefusal queueRight stateRight startRefusal start planByte byteRight speedRefusal speed isEntry moved advanceRefusal advance everywhere anywhere firstPlace greatest listed same
 cases-hold = allTest-sound cases tt

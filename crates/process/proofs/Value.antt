@@ -9,12 +9,12 @@ use mathlib.Core.Logic.{_⊎_, inl, inr, ⊎-elim, _↔_}
 use native.Mathlib.Nat.{pow-suc, mul-right-comm, one-mul, mul-le-mul-left, le-refl}
 use native.Mathlib.Nat.{le-of-lt, add-le-add, not-suc-le-zero, le-of-suc-le-suc, eq-or-lt-of-le}
 use native.Mathlib.Omega.{arith}
-use lib.Dec.{T, ltb}
+use lib.Dec.{T}
 use lib.ListN.{length, getD, replicate}
 use borrow.Author.Tests.{ltb-true, ltb-false}
 use Rattle.process.specs.Sums.{sum, Events, overLists, weight}
 use Rattle.process.specs.Ways.{Process, Way, later, Among, Along, Good, spent, energy, IsValue, IsCost, IsFirst}
-use Rattle.process.specs.Recursion.{plus, times, sumOrNone, only, Choice, nothing, chosen, choose, better}
+use Rattle.process.specs.Recursion.{plus, times, sumOrNone, only, Choice, nothing, chosen, choose, cheaper, better}
 use Rattle.process.specs.Recursion.{best, worth, actionOf, priced, choice, value, plan, ruled}
 use Rattle.process.specs.Pairing.{Rising}
 use Rattle.process.proofs.Sums.{sum-same, sum-add, sum-times, over-add, over-times, weights-total}
@@ -86,14 +86,23 @@ module _ (w : ℕ → ℕ) (h : ℕ → Option ℕ) where
 
 -- the least of several prices
 
+-- an action is taken for an earlier one only where it costs less
+pub cheaper-true : (v u : ℕ) → cheaper v u ≡ true → v < u
+unfolding cheaper
+cheaper-true v u e = ltb-true v u e
+
+pub cheaper-false : (v u : ℕ) → cheaper v u ≡ false → u ≤ v
+unfolding cheaper
+cheaper-false v u e = ltb-false v u e
+
 better-upto : (c : Choice) (a : ℕ) (r : Option ℕ) (u : ℕ) → Upto r u ⊎ Upto (worth c) u → Upto (worth (better c a r)) u
 better-upto c a none u t = ⊎-elim absurd (λ s. s) t
 better-upto nothing a (some v) u t = ⊎-elim (λ s. s) absurd t
-better-upto (chosen b s) a (some v) u t = go (ltb v s) refl t
+better-upto (chosen b s) a (some v) u t = go (cheaper v s) refl t
   where
-    go : (x : Bool) → ltb v s ≡ x → (v ≤ u) ⊎ (s ≤ u) → Upto (worth (choose x (chosen a v) (chosen b s))) u
-    go true e = ⊎-elim (λ q. q) (λ q. omega (arith, ltb-true v s e))
-    go false e = ⊎-elim (λ q. omega (arith, ltb-false v s e)) (λ q. q)
+    go : (x : Bool) → cheaper v s ≡ x → (v ≤ u) ⊎ (s ≤ u) → Upto (worth (choose x (chosen a v) (chosen b s))) u
+    go true e = ⊎-elim (λ q. q) (λ q. omega (arith, cheaper-true v s e))
+    go false e = ⊎-elim (λ q. omega (arith, cheaper-false v s e)) (λ q. q)
 
 -- where the least of the first j actions comes from: the first of those at that price
 abbrev pub Found : (ℕ → Option ℕ) → List ℕ → ℕ → Choice → Type 0
@@ -117,10 +126,10 @@ module _ (price : ℕ → Option ℕ) (actions : List ℕ) where
   best-found zero = tt
   best-found (suc j) = go (best price actions j) (price (getD actions j 0)) refl refl (best-found j)
     where
-      pick : (a b s v : ℕ) (x : Bool) → ltb v s ≡ x → best price actions j ≡ chosen b s → getD actions j 0 ≡ a → price a ≡ some v →
+      pick : (a b s v : ℕ) (x : Bool) → cheaper v s ≡ x → best price actions j ≡ chosen b s → getD actions j 0 ≡ a → price a ≡ some v →
           Found price actions j (chosen b s) → Found price actions (suc j) (choose x (chosen a v) (chosen b s))
       pick a b s v true e p o q f =
-          (j, omega arith, o, q, λ m l u t. omega (arith, ltb-true v s e, subst (λ c. Upto (worth c) u) p (best-upto j m u l t)))
+          (j, omega arith, o, q, λ m l u t. omega (arith, cheaper-true v s e, subst (λ c. Upto (worth c) u) p (best-upto j m u l t)))
       pick a b s v false e p o q f = (f .0, omega arith, f .2, f .3, f .4)
 
       go : (c : Choice) (r : Option ℕ) → best price actions j ≡ c → price (getD actions j 0) ≡ r → Found price actions j c →
@@ -128,7 +137,7 @@ module _ (price : ℕ → Option ℕ) (actions : List ℕ) where
       go nothing none p q f = tt
       go (chosen b s) none p q f = (f .0, omega arith, f .2, f .3, f .4)
       go nothing (some v) p q f = (j, omega arith, refl, q, λ m l u t. absurd (rw p at (best-upto j m u l t)))
-      go (chosen b s) (some v) p q f = pick (getD actions j 0) b s v (ltb v s) refl p refl q f
+      go (chosen b s) (some v) p q f = pick (getD actions j 0) b s v (cheaper v s) refl p refl q f
 
 module _ {S : Type 0} (P : Process S) (n : ℕ) (w : ℕ → ℕ) where
   -- the energy over one slot more: this slot's cost for all lists that follow, and what each event leads to

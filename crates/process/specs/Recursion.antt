@@ -38,11 +38,15 @@ abbrev pub choose : Bool → Choice → Choice → Choice
 choose true c d = c
 choose false c d = d
 
--- one action more; it is taken only where its price is less, so that ties go to the first
+-- when a later action is taken for an earlier one: where its price v is less than u, so that ties go to the first
+unfoldable pub cheaper : ℕ → ℕ → Bool
+cheaper v u = ltb v u
+
+-- one action more
 abbrev pub better : Choice → ℕ → Option ℕ → Choice
 better c a none = c
 better nothing a (some v) = chosen a v
-better (chosen b u) a (some v) = choose (ltb v u) (chosen a v) (chosen b u)
+better (chosen b u) a (some v) = choose (cheaper v u) (chosen a v) (chosen b u)
 
 -- the least of the first j actions
 unfoldable pub best : (ℕ → Option ℕ) → List ℕ → ℕ → Choice
