@@ -12,7 +12,8 @@ use Rattle.process.proofs.Eased.{eased-values}
 use Rattle.model.specs.Counted.{Counted, weightAt, sizeAt, deadlineAt, M}
 use Rattle.model.specs.Queue.{Queue, total, run}
 use Rattle.model.specs.Plan.{processOf, nextQueue, IsValueAt}
-use Rattle.model.proofs.Accepted.{accepted, on-sheet, speed-upto, speed-least}
+use Rattle.model.proofs.Counted.{on-sheet, speed-upto, speed-least}
+use Rattle.model.proofs.Refusal.{accepted}
 use Rattle.model.proofs.Queues.{length-run, length-arrive}
 use Rattle.model.proofs.Longer.{run-never-falls, run-no-longer, arrive-never-falls, arrive-no-longer, bearable-carries}
 use Rattle.demands.specs.Paired.{Paired, NowhereLonger}

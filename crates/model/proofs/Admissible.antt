@@ -13,7 +13,7 @@ use Rattle.model.specs.Queue.{Queue, total, bearable}
 use Rattle.model.specs.Plan.{nextQueue, processOf, admissible}
 use Rattle.model.specs.Tests.{everywhere}
 use Rattle.model.proofs.Tests.{and-left, and-right, and-both, everywhere-at, everywhere-all}
-use Rattle.model.proofs.Accepted.{on-sheet}
+use Rattle.model.proofs.Counted.{on-sheet}
 
 -- along the list of entries, from the queue w, each speed is admissible
 abbrev pub AlongAdmissible : Counted → Queue → Way → List ℕ → Type 0

@@ -1,31 +1,31 @@
 -- The cases of specs/Cases.antt hold: a test that is computed, one lemma that turns the test into what a case means, and one computation
 -- over the whole list.
-use Prim.Native.Nat.{ℕ, zero, suc, _+_, _*_, _-_, _<_, _≤_}
+use Prim.Native.Nat.{ℕ, zero, suc, pred, _-_, _<_}
 use mathlib.Core.Path.{_≡_, refl, sym, ap, _∙_, subst}
-use mathlib.Core.Bool.{Bool, true, false, cond, _&&_, not}
-use mathlib.Core.List.{List, [], _∷_, _++_}
+use mathlib.Core.Bool.{Bool, true, false, _&&_}
+use mathlib.Core.List.{List, [], _∷_}
 use mathlib.Core.Option.{Option, none, some}
 use native.Mathlib.Omega.{arith}
-use lib.Dec.{T, eqb, leb, ltb, eqb→eq}
+use lib.Dec.{T, eqb, ltb, eqb→eq, ltb→lt}
 use lib.ListN.{length, getD}
-use Rattle.process.specs.Sums.{sum, same}
-use Rattle.process.specs.Recursion.{sumOrNone, cheaper, best, priced, choice, value, plan}
+use Rattle.process.specs.Sums.{same}
+use Rattle.process.specs.Recursion.{priced, value, plan}
 use Rattle.process.specs.Ways.{IsValue, IsCost, IsFirst}
 use Rattle.process.proofs.Sums.{same-true}
 use Rattle.process.proofs.Value.{value-is, first-is, cost-is}
-use Rattle.model.specs.Bytes.{codeIn, speedBytes, jobBytes, sheetBytes, writeRefusal, write}
-use Rattle.model.specs.Cases.{Case, planned, worth, decides, answers, costs, refuses, counts, fields, steps, tells, numbers, lists, tests, Holds, AllHold, casesP, casesOfPlans, casesOfQueues, casesOfRefusals, casesOfBytes, casesOfSteps, cases}
-use Rattle.model.specs.Counted.{Counted, weightAt, speedsOf, onSheet, energyOf, W, M, greatestEnergy, G}
-use Rattle.model.specs.Plan.{nextQueue, processOf, admissible, IsValueAt, IsPlanByte, IsCostAt, Decided, queueAt, valueIn, number12, orZero, planRefusal, rowRefusal, row}
-use Rattle.model.specs.Queue.{Queue, emptyQueue, bearable, run, arrive, eachTotal, continuations, bearableQueues, queueCount, placeIn, numberOf, continuationCount}
-use Rattle.model.specs.Reading.{Answer, refused, numberIn, readSpeeds, readJobs, readCounted, read}
+use Rattle.model.specs.Cases.{Case, planned, worth, decides, answers, costs, refuses, counts, fields, steps, tells, numbers, lists, tests, Holds, AllHold, cases}
+use Rattle.model.specs.Counted.{Counted, speedAt, weightAt, onSheet, M}
+use Rattle.model.specs.Plan.{processOf, IsValueAt, IsPlanByte, queueAt, valueIn, number12, orZero}
+use Rattle.model.specs.Queue.{Queue, emptyQueue, bearable, continuationCount}
+use Rattle.model.specs.Reading.{Answer, refused}
 use Rattle.model.specs.Reading
-use Rattle.model.specs.Refusal.{speedsRefusal, jobsRefusal, refusal9, N, refusalGiven, sheetRefusal}
-use Rattle.model.specs.Stepper.{State, Stepped, queueRight, stateRight, startRefusal, start, planByte, byteRight, speedRefusal, speed, isEntry, moved, advanceRefusal, advance}
-use Rattle.model.specs.Tests.{everywhere, anywhere, firstPlace, greatest, listed}
-use Rattle.model.proofs.Accepted.{accepted, speeds-rise, on-sheet}
+use Rattle.model.specs.Refusal.{N, refusalGiven, sheetRefusal}
+use Rattle.model.specs.Stepper.{State, speed}
+use Rattle.model.specs.Tests.{check, _then_, everywhere}
+use Rattle.model.proofs.Computed.{sameOption, sameAnswer, sameState, sameBool, quickN, orderly, valueFor, byteTest, decidesTest, costTest, rowTest, test, firstFailing, cases-pass}
+use Rattle.model.proofs.Counted.{Climbs, climbs-rise, on-sheet}
 use Rattle.model.proofs.Queues.{queue-count}
-use Rattle.model.proofs.Tests.{and-left, and-right, everywhere-at}
+use Rattle.model.proofs.Tests.{and-left, and-right, check-zero, then-left, then-right, everywhere-at}
 
 -- several tests together
 
@@ -41,24 +41,12 @@ and-four a b c d t =
 
 -- tests of equality
 
-sameOption : Option ℕ → Option ℕ → Bool
-sameOption none none = true
-sameOption none (some v) = false
-sameOption (some u) none = false
-sameOption (some u) (some v) = eqb u v
-
 sameOption-true : (r q : Option ℕ) → T (sameOption r q) → r ≡ q
 unfolding sameOption
 sameOption-true none none t = refl
 sameOption-true none (some v) t = absurd t
 sameOption-true (some u) none t = absurd t
 sameOption-true (some u) (some v) t = ap {B = Option ℕ} some (eqb→eq u v t)
-
-sameAnswer : Answer ℕ → Answer ℕ → Bool
-sameAnswer (Reading.value a i) (Reading.value b j) = eqb a b && eqb i j
-sameAnswer (Reading.value a i) (refused n) = false
-sameAnswer (refused m) (Reading.value b j) = false
-sameAnswer (refused m) (refused n) = eqb m n
 
 sameAnswer-true : (p q : Answer ℕ) → T (sameAnswer p q) → p ≡ q
 unfolding sameAnswer
@@ -70,9 +58,6 @@ sameAnswer-true (Reading.value a i) (refused n) t = absurd t
 sameAnswer-true (refused m) (Reading.value b j) t = absurd t
 sameAnswer-true (refused m) (refused n) t = ap {B = Answer ℕ} refused (eqb→eq m n t)
 
-sameState : State → State → Bool
-sameState x y = same (x .queue) (y .queue) && (eqb (x .slot) (y .slot) && eqb (x .energy) (y .energy))
-
 sameState-true : (x y : State) → T (sameState x y) → x ≡ y
 unfolding sameState
 sameState-true x y t =
@@ -82,10 +67,6 @@ sameState-true x y t =
     let e = eqb→eq (x .energy) (y .energy) (told .2) in
     λ i. record { queue = q i; slot = s i; energy = e i }
 
-sameBool : Bool → Bool → Bool
-sameBool true b = b
-sameBool false b = not b
-
 sameBool-true : (a b : Bool) → T (sameBool a b) → a ≡ b
 unfolding sameBool
 sameBool-true true true t = refl
@@ -93,52 +74,33 @@ sameBool-true true false t = absurd t
 sameBool-true false true t = absurd t
 sameBool-true false false t = refl
 
--- N by the recurrence, which is computed at once where the list is too long to be built
-
-quickN : Counted → ℕ
-quickN s = continuationCount (M s) (s .bound) 0
-
 quickN-is : (s : Counted) → N s ≡ quickN s
 unfolding N quickN
 quickN-is s = queue-count (M s) (s .bound)
-
-accepts : Counted → Bool
-accepts s = eqb (refusalGiven (quickN s) s) 0
 
 refusal-is : (s : Counted) → sheetRefusal s ≡ refusalGiven (quickN s) s
 unfolding sheetRefusal
 refusal-is s = ap (λ (n : ℕ). refusalGiven n s) (quickN-is s)
 
-accepts-true : (s : Counted) → T (accepts s) → sheetRefusal s ≡ 0
-unfolding accepts
-accepts-true s t = refusal-is s ∙ eqb→eq (refusalGiven (quickN s) s) 0 t
+orderly-true : (s : Counted) → T (orderly s) → (0 < s .jobCount) × Climbs s
+unfolding orderly
+orderly-true s t =
+    let climbs = and-right (ltb 0 (s .jobCount)) (everywhere (λ j. ltb (speedAt s j) (speedAt s (suc j))) (pred (s .speedCount))) t in (
+      ltb→lt 0 (s .jobCount)
+          (and-left (ltb 0 (s .jobCount)) (everywhere (λ j. ltb (speedAt s j) (speedAt s (suc j))) (pred (s .speedCount))) t),
+      λ j h.
+          ltb→lt (speedAt s j) (speedAt s (suc j))
+          (everywhere-at (λ j. ltb (speedAt s j) (speedAt s (suc j))) (pred (s .speedCount)) climbs j (omega arith)),
+    )
 
--- the recursion's value and plan for a sheet, k slots from its end
-
-abbrev valueFor : Counted → ℕ → Queue → Option ℕ
-valueFor s k w = value (processOf s) (s .jobCount) (weightAt s) k w
-
-byteTest : Counted → ℕ → Queue → Option ℕ → ℕ → Bool
-byteTest s k w none byte = eqb byte 255
-byteTest s zero w (some v) byte = false
-byteTest s (suc k) w (some v) byte = eqb (plan (processOf s) (s .jobCount) (weightAt s) (suc k) w) byte
-
-decidesTest : Counted → ℕ → Queue → Option ℕ → ℕ → Bool
-decidesTest s k w r byte = sameOption (valueFor s k w) r && byteTest s k w r byte
-
-costTest : Counted → ℕ → Queue → ℕ → ℕ → Bool
-costTest s zero w a v = false
-costTest s (suc k) w a v =
-    bearable (M s) w && (onSheet s a && sameOption (priced (processOf s) (s .jobCount) (weightAt s) k (valueFor s k) w a) (some v))
-
-module _ (s : Counted) (ok : sheetRefusal s ≡ 0) where
+module _ (s : Counted) (ok : T (orderly s)) where
   value-sound : (k : ℕ) (w : Queue) (r : Option ℕ) → T (sameOption (valueFor s k w) r) →
       (valueFor s k w ≡ r) × IsValue (processOf s) (s .jobCount) (weightAt s) k w r
   value-sound k w r t =
       let e : valueFor s k w ≡ r = sameOption-true (valueFor s k w) r t in (
         e,
         subst (IsValue (processOf s) (s .jobCount) (weightAt s) k w) e
-            (value-is (processOf s) (s .jobCount) (weightAt s) (accepted s ok .jobs-low) k w),
+            (value-is (processOf s) (s .jobCount) (weightAt s) (orderly-true s ok .0) k w),
       )
 
   first-sound : (k : ℕ) (w : Queue) (v byte : ℕ) → valueFor s k w ≡ some v → T (byteTest s k w (some v) byte) →
@@ -148,7 +110,7 @@ module _ (s : Counted) (ok : sheetRefusal s ≡ 0) where
   first-sound (suc k) w v byte e t =
       subst (IsFirst (processOf s) (s .jobCount) (weightAt s) (suc k) w)
       (eqb→eq (plan (processOf s) (s .jobCount) (weightAt s) (suc k) w) byte t)
-      (first-is (processOf s) (s .jobCount) (weightAt s) (accepted s ok .jobs-low) (speeds-rise s ok) k w v e)
+      (first-is (processOf s) (s .jobCount) (weightAt s) (orderly-true s ok .0) (climbs-rise s (orderly-true s ok .1)) k w v e)
 
   byte-sound : (t : ℕ) (w : Queue) (r : Option ℕ) (byte : ℕ) → valueFor s (s .horizon - t) w ≡ r →
       T (byteTest s (s .horizon - t) w r byte) → IsPlanByte s t w r byte
@@ -170,42 +132,19 @@ module _ (s : Counted) (ok : sheetRefusal s ≡ 0) where
   cost-sound (suc k) w a v b =
       let price = priced (processOf s) (s .jobCount) (weightAt s) k (valueFor s k) w a in
       let told = and-three (bearable (M s) w) (onSheet s a) (sameOption price (some v)) b in
-      cost-is (processOf s) (s .jobCount) (weightAt s) (accepted s ok .jobs-low) k w a v (told .0) (on-sheet s a .0 (told .1))
+      cost-is (processOf s) (s .jobCount) (weightAt s) (orderly-true s ok .0) k w a v (told .0) (on-sheet s a .0 (told .1))
       (sameOption-true price (some v) (told .2))
-
--- the test of a case
-
-rowTest : Counted → ℕ → List ℕ → List ℕ → ℕ → Bool
-rowTest s t values plan i = decidesTest s (s .horizon - t) (queueAt s i) (valueIn values i) (getD plan i 0)
-
-test : Case → Bool
-test (planned s t values plan) =
-    accepts s && (eqb (length values) (quickN s) && (eqb (length plan) (quickN s) && everywhere (rowTest s t values plan) (quickN s)))
-test (worth s t w r) = accepts s && sameOption (valueFor s (s .horizon - t) w) r
-test (decides s t w r byte) = accepts s && decidesTest s (s .horizon - t) w r byte
-test (answers s number queues least) =
-    let r = valueFor s (s .horizon - 0) (emptyQueue (s .bound)) in
-    accepts s && (eqb number (number12 r) && (eqb least (orZero r) && eqb (quickN s) queues))
-test (costs s t w a v) = accepts s && costTest s (s .horizon - t) w a v
-test (refuses s number) = eqb (refusalGiven (quickN s) s) number
-test (counts M D n) = eqb (continuationCount M D 0) n
-test (fields found expected) = sameAnswer found expected
-test (steps answer number state) = eqb (answer .number) number && sameState (answer .state) state
-test (tells answer number speed) = eqb (answer .number) number && eqb (answer .speed) speed
-test (numbers found expected) = eqb found expected
-test (lists found expected) = same found expected
-test (tests found expected) = sameBool found expected
 
 planned-sound : (s : Counted) (t : ℕ) (values plan : List ℕ) → T (test (planned s t values plan)) → Holds (planned s t values plan)
 unfolding test rowTest
 planned-sound s t values plan b =
     let n = quickN s in
-    let told = and-four (accepts s) (eqb (length values) n) (eqb (length plan) n) (everywhere (rowTest s t values plan) n) b in (
+    let told = and-four (orderly s) (eqb (length values) n) (eqb (length plan) n) (everywhere (rowTest s t values plan) n) b in (
       eqb→eq (length values) n (told .1) ∙ sym (quickN-is s),
       eqb→eq (length plan) n (told .2) ∙ sym (quickN-is s),
       λ i h.
           let tested = everywhere-at (rowTest s t values plan) n (told .3) i (subst (λ (m : ℕ). i < m) (quickN-is s) h) in
-          let decided = decides-sound s (accepts-true s (told .0)) t (queueAt s i) (valueIn values i) (getD plan i 0) tested in
+          let decided = decides-sound s (told .0) t (queueAt s i) (valueIn values i) (getD plan i 0) tested in
           record { r = valueIn values i; is-value = decided .0; in-values = refl; in-plan = decided .1 },
     )
 
@@ -214,26 +153,26 @@ sound : (c : Case) → T (test c) → Holds c
 unfolding test
 sound (planned s t values plan) b = planned-sound s t values plan b
 sound (worth s t w r) b =
-    value-sound s (accepts-true s (and-left (accepts s) (sameOption (valueFor s (s .horizon - t) w) r) b)) (s .horizon - t) w r
-    (and-right (accepts s) (sameOption (valueFor s (s .horizon - t) w) r) b) .1
+    value-sound s (and-left (orderly s) (sameOption (valueFor s (s .horizon - t) w) r) b) (s .horizon - t) w r
+    (and-right (orderly s) (sameOption (valueFor s (s .horizon - t) w) r) b) .1
 sound (decides s t w r byte) b =
-    decides-sound s (accepts-true s (and-left (accepts s) (decidesTest s (s .horizon - t) w r byte) b)) t w r byte
-    (and-right (accepts s) (decidesTest s (s .horizon - t) w r byte) b)
+    decides-sound s (and-left (orderly s) (decidesTest s (s .horizon - t) w r byte) b) t w r byte
+    (and-right (orderly s) (decidesTest s (s .horizon - t) w r byte) b)
 sound (answers s number queues least) b =
     let r = valueFor s (s .horizon - 0) (emptyQueue (s .bound)) in
-    let told = and-four (accepts s) (eqb number (number12 r)) (eqb least (orZero r)) (eqb (quickN s) queues) b in (
+    let told = and-four (orderly s) (eqb number (number12 r)) (eqb least (orZero r)) (eqb (quickN s) queues) b in (
       record {
         r = r;
         is-value =
-            value-is (processOf s) (s .jobCount) (weightAt s) (accepted s (accepts-true s (told .0)) .jobs-low) (s .horizon - 0) (emptyQueue (s .bound));
+            value-is (processOf s) (s .jobCount) (weightAt s) (orderly-true s (told .0) .0) (s .horizon - 0) (emptyQueue (s .bound));
         number = eqb→eq number (number12 r) (told .1);
         least = eqb→eq least (orZero r) (told .2);
       },
       quickN-is s ∙ eqb→eq (quickN s) queues (told .3),
     )
 sound (costs s t w a v) b =
-    cost-sound s (accepts-true s (and-left (accepts s) (costTest s (s .horizon - t) w a v) b)) (s .horizon - t) w a v
-    (and-right (accepts s) (costTest s (s .horizon - t) w a v) b)
+    cost-sound s (and-left (orderly s) (costTest s (s .horizon - t) w a v) b) (s .horizon - t) w a v
+    (and-right (orderly s) (costTest s (s .horizon - t) w a v) b)
 sound (refuses s number) b = refusal-is s ∙ eqb→eq (refusalGiven (quickN s) s) number b
 sound (counts M D n) b = queue-count M D ∙ eqb→eq (continuationCount M D 0) n b
 sound (fields found expected) b = sameAnswer-true found expected b
@@ -249,17 +188,15 @@ sound (numbers found expected) b = eqb→eq found expected b
 sound (lists found expected) b = same-true found expected b
 sound (tests found expected) b = sameBool-true found expected b
 
-allTest : List Case → Bool
-allTest [] = true
-allTest (c ∷ rest) = test c && allTest rest
+all-sound : (place : ℕ) (l : List Case) → firstFailing place l ≡ 0 → AllHold l
+unfolding firstFailing
+all-sound place [] e = tt
+all-sound place (c ∷ rest) e =
+    let later = firstFailing (suc place) rest in (
+      sound c (check-zero (test c) place (then-left (check (test c) (suc place)) later e)),
+      all-sound (suc place) rest (then-right (check (test c) (suc place)) later e),
+    )
 
-allTest-sound : (l : List Case) → T (allTest l) → AllHold l
-unfolding allTest
-allTest-sound [] b = tt
-allTest-sound (c ∷ rest) b =
-    (sound c (and-left (test c) (allTest rest) b), allTest-sound rest (and-right (test c) (allTest rest) b))
-
--- all the cases: those of document 01 that are marked P, and ours
+-- all the cases hold: those of document 01 that are marked P, and ours
 pub cases-hold : AllHold cases
-unfolding cases casesP casesOfPlans casesOfQueues casesOfRefusals casesOfBytes casesOfSteps allTest test quickN accepts byteTest decidesTest costTest rowTest sameOption sameAnswer sameState sameBool sum sumOrNone cheaper best priced choice value plan codeIn speedBytes jobBytes sheetBytes writeRefusal write speedsOf onSheet energyOf W M greatestEnergy G nextQueue processOf admissible planRefusal rowRefusal row bearable run arrive eachTotal continuations bearableQueues queueCount placeIn numberOf continuationCount numberIn readSpeeds readJobs readCounted read speedsRefusal jobsRefusal refusal9 N refusalGiven sheetRefusal queueRight stateRight startRefusal start planByte byteRight speedRefusal speed isEntry moved advanceRefusal advance everywhere anywhere firstPlace greatest listed same
-cases-hold = allTest-sound cases tt
+cases-hold = all-sound 0 cases cases-pass

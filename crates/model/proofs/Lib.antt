@@ -1,6 +1,8 @@
+pub mod Computed
 pub mod Tests
-pub mod Accepted
+pub mod Counted
 pub mod Queues
+pub mod Refusal
 pub mod Admissible
 pub mod Longer
 pub mod Cases

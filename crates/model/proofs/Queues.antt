@@ -35,12 +35,12 @@ total-past w (suc i) h = List·getD-eq-default w 0 (le-of-suc-le-suc h)
 -- a slot keeps the number of positions
 pub length-run : (w : Queue) (s : ℕ) → length (run w s) ≡ length w
 unfolding run
-length-run w s = length-totals (length w) (λ u. total w (min (suc u) (length w)) - s)
+length-run w s = length-listed _ (length w)
 
 -- an arrival keeps the number of positions
 pub length-arrive : (w : Queue) (c d : ℕ) → length (arrive w c d) ≡ length w
 unfolding arrive
-length-arrive w c d = length-totals (length w) (λ u. total w u + cond (leb d u) c 0)
+length-arrive w c d = length-listed _ (length w)
 
 -- after a slot at speed s the total at u is what was at u + 1, or at the last position, less s
 pub total-run : (w : Queue) (s u : ℕ) → 1 ≤ u → u ≤ length w → total (run w s) u ≡ total w (min (suc u) (length w)) - s

@@ -1,6 +1,6 @@
 -- Document 01, "Bytes": a number's code, a sheet's bytes, and what the writer leaves.
-use Prim.Native.Nat.{ℕ, zero, suc, _+_, _*_, _%_, _/_}
-use mathlib.Core.Bool.{Bool, cond}
+use Prim.Native.Nat.{ℕ, zero, suc, _+_, _%_, _/_}
+use mathlib.Core.Bool.{cond}
 use mathlib.Core.List.{List, [], _∷_, _++_}
 use lib.Dec.{leb, ltb, eqb}
 use lib.ListN.{length, drop}

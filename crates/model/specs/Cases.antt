@@ -1,12 +1,12 @@
 -- The cases of document 01 that are marked P, and more that tell apart what is easy to get wrong. `Holds` gives each kind of case its
 -- meaning in the definitions; that all of them hold is one theorem, proofs/Cases.antt.
-use Prim.Native.Nat.{ℕ, zero, suc, _<_}
+use Prim.Native.Nat.{ℕ, _<_}
 use mathlib.Core.Path.{_≡_}
 use mathlib.Core.Bool.{Bool, true, false}
 use mathlib.Core.List.{List, [], _∷_, _++_}
 use mathlib.Core.Option.{Option, none, some}
 use lib.ListN.{length, getD, take, replicate, set}
-use Rattle.model.specs.Bytes.{code, sheetBytes, write, Written}
+use Rattle.model.specs.Bytes.{code, sheetBytes, write}
 use Rattle.model.specs.Counted.{Counted, counted, padded}
 use Rattle.model.specs.Plan.{IsValueAt, IsCostAt, IsPlanByte, Decided, FromEmpty, valueIn, admissible, row}
 use Rattle.model.specs.Queue.{Queue, emptyQueue, run, arrive, queueCount, numberOf, bearable}
@@ -349,6 +349,7 @@ casesOfSteps =
     -- a slot above T is 13, and slot T is 14
     tells (speed A planA (state (0 ∷ 2 ∷ []) 3 0)) 13 0 ∷
     tells (speed A planA (state (0 ∷ 2 ∷ []) 2 0)) 14 0 ∷
+    tells (speed A planA (state (0 ∷ 5 ∷ []) 2 0)) 13 0 ∷
     -- the energy is at most the slot number times the greatest energy, which is 0 where all energies are
     tells (speed A planA (state (0 ∷ 2 ∷ []) 1 4)) 0 0 ∷
     tells (speed A planA (state (0 ∷ 2 ∷ []) 1 5)) 13 0 ∷

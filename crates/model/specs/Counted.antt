@@ -1,9 +1,9 @@
 -- The sheet of document 01, "The sheet", as the places that count: "In memory a sheet has room for all entries; places past the counts
 -- are ignored by every call". Every rule is said of this view, so that places past the counts cannot matter; two sheets are the same
 -- "in every place that counts" where their views are equal.
-use Prim.Native.Nat.{ℕ, _+_, _*_}
+use Prim.Native.Nat.{ℕ, _+_}
 use mathlib.Core.Bool.{Bool, cond}
-use mathlib.Core.List.{List, [], _∷_, _++_}
+use mathlib.Core.List.{List, _++_}
 use lib.Dec.{eqb}
 use lib.ListN.{take, getD, replicate}
 use Rattle.process.specs.Sums.{sum}

@@ -1,6 +1,6 @@
 -- Document 01, "Energy and plans": the process of a sheet, what the value and the plan's speed of a slot and queue are, and what the
 -- planner and the row call answer. All of it is said of ways (process/specs/Ways.antt); no induction is mentioned.
-use Prim.Native.Nat.{ℕ, zero, suc, _+_, _*_, _-_, _^_, _≤_, _<_}
+use Prim.Native.Nat.{ℕ, zero, suc, _+_, _*_, _-_, _^_, _<_}
 use mathlib.Core.Path.{_≡_}
 use mathlib.Core.Bool.{Bool, cond, _&&_}
 use mathlib.Core.List.{List, []}

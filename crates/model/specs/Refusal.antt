@@ -1,6 +1,6 @@
 -- Document 01, "Numbers returned", for a sheet. "A sheet in memory is tested 4 to 10 in that field order by every call": the reader's
 -- order, in which a field's "own range is tested before the next field".
-use Prim.Native.Nat.{ℕ, zero, suc, pred, _+_, _*_, _^_, _-_}
+use Prim.Native.Nat.{ℕ, zero, suc, pred, _*_, _^_, _-_}
 use mathlib.Core.Bool.{Bool, _&&_}
 use lib.Dec.{leb, ltb, eqb}
 use Rattle.model.specs.Counted.{Counted, speedAt, energyAt, weightAt, sizeAt, deadlineAt, W, M, G}

@@ -1,14 +1,14 @@
 -- Document 01, "The stepper": start, speed and advance as functions from what they are given to what they answer, each with its order of
 -- refusals.
-use Prim.Native.Nat.{ℕ, zero, suc, _+_, _*_, _-_}
+use Prim.Native.Nat.{ℕ, suc, _+_, _*_, _-_}
 use mathlib.Core.Bool.{Bool, cond, _&&_, not}
 use mathlib.Core.List.{List}
-use lib.Dec.{leb, ltb, eqb}
+use lib.Dec.{leb, eqb}
 use lib.ListN.{length, getD, take, replicate}
 use Rattle.model.specs.Counted.{Counted, sizeAt, deadlineAt, onSheet, energyOf, greatestEnergy, padded, M}
 use Rattle.model.specs.Plan.{placeAt, planNeeded}
 use Rattle.model.specs.Queue.{Queue, total, bearable, run, arrive, numberOf}
-use Rattle.model.specs.Refusal.{sheetRefusal, N}
+use Rattle.model.specs.Refusal.{sheetRefusal}
 use Rattle.model.specs.Tests.{check, _then_, everywhere, anywhere}
 
 -- "A state has a queue, a slot number and the energy spent." The queue stands in six places: "Positions past D are unused and zero"

@@ -9,7 +9,7 @@ use mathlib.Core.List.{List, [], _∷_}
 use mathlib.Core.Option.{Option, none, some}
 use lib.Dec.{T}
 use lib.ListN.{length, getD}
-use Rattle.process.specs.Sums.{sum, Events, overLists, weight}
+use Rattle.process.specs.Sums.{Events, overLists, weight}
 
 -- `actions` are those that a way may choose from; a state is `alive` where a way may be; an action is `allowed` in a state or not;
 -- `next` is the state after an action and then an event; `cost` is what an action costs in a state; `last` is the price of the state

@@ -1,0 +1,103 @@
+-- The cases of specs/Cases.antt, computed: a test for each kind of case, and one computation over the whole list. What a test that passes
+-- means is proved in Cases.antt beside this file.
+use Prim.Native.Nat.{ℕ, zero, suc, pred, _-_}
+use mathlib.Core.Path.{_≡_, refl}
+use mathlib.Core.Bool.{Bool, true, false, _&&_, not}
+use mathlib.Core.List.{List, [], _∷_}
+use mathlib.Core.Option.{Option, none, some}
+use lib.Dec.{eqb, ltb}
+use lib.ListN.{length, getD}
+use Rattle.process.specs.Sums.{sum, same}
+use Rattle.process.specs.Recursion.{sumOrNone, cheaper, best, priced, choice, value, plan}
+use Rattle.model.specs.Bytes.{codeIn, speedBytes, jobBytes, sheetBytes, writeRefusal, write}
+use Rattle.model.specs.Cases.{Case, planned, worth, decides, answers, costs, refuses, counts, fields, steps, tells, numbers, lists, tests, casesP, casesOfPlans, casesOfQueues, casesOfRefusals, casesOfBytes, casesOfSteps, cases}
+use Rattle.model.specs.Counted.{Counted, speedAt, weightAt, speedsOf, onSheet, energyOf, W, M, greatestEnergy, G}
+use Rattle.model.specs.Plan.{nextQueue, processOf, admissible, queueAt, valueIn, number12, orZero, planRefusal, rowRefusal, row}
+use Rattle.model.specs.Queue.{Queue, emptyQueue, bearable, run, arrive, eachTotal, continuations, bearableQueues, queueCount, placeIn, numberOf, continuationCount}
+use Rattle.model.specs.Reading.{Answer, refused, numberIn, readSpeeds, readJobs, readCounted, read}
+use Rattle.model.specs.Reading
+use Rattle.model.specs.Refusal.{speedsRefusal, jobsRefusal, refusal9, N, refusalGiven, sheetRefusal}
+use Rattle.model.specs.Stepper.{State, queueRight, stateRight, startRefusal, start, planByte, byteRight, speedRefusal, speed, isEntry, moved, advanceRefusal, advance}
+use Rattle.model.specs.Tests.{check, _then_, everywhere, anywhere, firstPlace, greatest, listed}
+
+-- tests of equality
+
+unfoldable pub sameOption : Option ℕ → Option ℕ → Bool
+sameOption none none = true
+sameOption none (some v) = false
+sameOption (some u) none = false
+sameOption (some u) (some v) = eqb u v
+
+unfoldable pub sameAnswer : Answer ℕ → Answer ℕ → Bool
+sameAnswer (Reading.value a i) (Reading.value b j) = eqb a b && eqb i j
+sameAnswer (Reading.value a i) (refused n) = false
+sameAnswer (refused m) (Reading.value b j) = false
+sameAnswer (refused m) (refused n) = eqb m n
+
+unfoldable pub sameState : State → State → Bool
+sameState x y = same (x .queue) (y .queue) && (eqb (x .slot) (y .slot) && eqb (x .energy) (y .energy))
+
+unfoldable pub sameBool : Bool → Bool → Bool
+sameBool true b = b
+sameBool false b = not b
+
+-- N by the recurrence, which is computed at once where the list is too long to be built
+
+unfoldable pub quickN : Counted → ℕ
+quickN s = continuationCount (M s) (s .bound) 0
+
+-- what the theory asks of a sheet: an entry, and speeds that rise
+
+unfoldable pub orderly : Counted → Bool
+orderly s = ltb 0 (s .jobCount) && everywhere (λ j. ltb (speedAt s j) (speedAt s (suc j))) (pred (s .speedCount))
+
+-- the recursion's value and plan for a sheet, k slots from its end
+
+abbrev pub valueFor : Counted → ℕ → Queue → Option ℕ
+valueFor s k w = value (processOf s) (s .jobCount) (weightAt s) k w
+
+unfoldable pub byteTest : Counted → ℕ → Queue → Option ℕ → ℕ → Bool
+byteTest s k w none byte = eqb byte 255
+byteTest s zero w (some v) byte = false
+byteTest s (suc k) w (some v) byte = eqb (plan (processOf s) (s .jobCount) (weightAt s) (suc k) w) byte
+
+unfoldable pub decidesTest : Counted → ℕ → Queue → Option ℕ → ℕ → Bool
+decidesTest s k w r byte = sameOption (valueFor s k w) r && byteTest s k w r byte
+
+unfoldable pub costTest : Counted → ℕ → Queue → ℕ → ℕ → Bool
+costTest s zero w a v = false
+costTest s (suc k) w a v =
+    bearable (M s) w && (onSheet s a && sameOption (priced (processOf s) (s .jobCount) (weightAt s) k (valueFor s k) w a) (some v))
+
+-- the test of a case
+
+unfoldable pub rowTest : Counted → ℕ → List ℕ → List ℕ → ℕ → Bool
+rowTest s t values plan i = decidesTest s (s .horizon - t) (queueAt s i) (valueIn values i) (getD plan i 0)
+
+unfoldable pub test : Case → Bool
+test (planned s t values plan) =
+    orderly s && (eqb (length values) (quickN s) && (eqb (length plan) (quickN s) && everywhere (rowTest s t values plan) (quickN s)))
+test (worth s t w r) = orderly s && sameOption (valueFor s (s .horizon - t) w) r
+test (decides s t w r byte) = orderly s && decidesTest s (s .horizon - t) w r byte
+test (answers s number queues least) =
+    let r = valueFor s (s .horizon - 0) (emptyQueue (s .bound)) in
+    orderly s && (eqb number (number12 r) && (eqb least (orZero r) && eqb (quickN s) queues))
+test (costs s t w a v) = orderly s && costTest s (s .horizon - t) w a v
+test (refuses s number) = eqb (refusalGiven (quickN s) s) number
+test (counts M D n) = eqb (continuationCount M D 0) n
+test (fields found expected) = sameAnswer found expected
+test (steps answer number state) = eqb (answer .number) number && sameState (answer .state) state
+test (tells answer number speed) = eqb (answer .number) number && eqb (answer .speed) speed
+test (numbers found expected) = eqb found expected
+test (lists found expected) = same found expected
+test (tests found expected) = sameBool found expected
+
+-- the place of the first case that does not pass, counted from 1; 0 where all pass
+unfoldable pub firstFailing : ℕ → List Case → ℕ
+firstFailing place [] = 0
+firstFailing place (c ∷ rest) = check (test c) (suc place) then firstFailing (suc place) rest
+
+-- the computation: every case passes its test
+pub cases-pass : firstFailing 0 cases ≡ 0
+unfolding cases casesP casesOfPlans casesOfQueues casesOfRefusals casesOfBytes casesOfSteps firstFailing test quickN orderly byteTest decidesTest costTest rowTest sameOption sameAnswer sameState sameBool sum sumOrNone cheaper best priced choice value plan codeIn speedBytes jobBytes sheetBytes writeRefusal write speedsOf onSheet energyOf W M greatestEnergy G nextQueue processOf admissible planRefusal rowRefusal row bearable run arrive eachTotal continuations bearableQueues queueCount placeIn numberOf continuationCount numberIn readSpeeds readJobs readCounted read speedsRefusal jobsRefusal refusal9 N refusalGiven sheetRefusal queueRight stateRight startRefusal start planByte byteRight speedRefusal speed isEntry moved advanceRefusal advance everywhere anywhere firstPlace greatest listed same
+cases-pass = refl
