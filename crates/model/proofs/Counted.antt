@@ -47,7 +47,7 @@ unfolding onSheet
 on-sheet-at s j h = anywhere-one (λ i. eqb (speedAt s i) (speedAt s j)) (s .speedCount) j h (eqb-refl (speedAt s j))
 
 -- a speed that is on the sheet has a place
-place-of : (s : Counted) (a : ℕ) → T (onSheet s a) → (j : ℕ) × (j < s .speedCount) × (speedAt s j ≡ a)
+pub place-of : (s : Counted) (a : ℕ) → T (onSheet s a) → (j : ℕ) × (j < s .speedCount) × (speedAt s j ≡ a)
 unfolding onSheet
 place-of s a t =
     let f = anywhere-at (λ j. eqb (speedAt s j) a) (s .speedCount) t in
