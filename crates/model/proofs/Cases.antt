@@ -21,7 +21,7 @@ use Rattle.model.specs.Reading.{Answer, refused}
 use Rattle.model.specs.Reading
 use Rattle.model.specs.Refusal.{N, refusalGiven, sheetRefusal}
 use Rattle.model.specs.Stepper.{State, speed}
-use Rattle.model.specs.Tests.{check, _then_, everywhere}
+use Rattle.model.specs.Tests.{check, everywhere}
 use Rattle.model.proofs.Computed.{sameOption, sameAnswer, sameState, sameBool, quickN, orderly, valueFor, byteTest, decidesTest, costTest, rowTest, test, firstFailing, cases-pass}
 use Rattle.model.proofs.Counted.{Climbs, climbs-rise, on-sheet}
 use Rattle.model.proofs.Queues.{queue-count}

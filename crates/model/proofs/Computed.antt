@@ -13,11 +13,11 @@ use Rattle.model.specs.Bytes.{codeIn, speedBytes, jobBytes, sheetBytes, 
 use Rattle.model.specs.Cases.{Case, planned, worth, decides, answers, costs, refuses, counts, fields, steps, tells, numbers, lists, tests, casesP, casesOfPlans, casesOfQueues, casesOfRefusals, casesOfBytes, casesOfSteps, cases}
 use Rattle.model.specs.Counted.{Counted, speedAt, weightAt, speedsOf, onSheet, energyOf, W, M, greatestEnergy, G}
 use Rattle.model.specs.Plan.{nextQueue, processOf, admissible, queueAt, valueIn, number12, orZero, planRefusal, rowRefusal, row}
-use Rattle.model.specs.Queue.{Queue, emptyQueue, bearable, run, arrive, eachTotal, continuations, bearableQueues, queueCount, placeIn, numberOf, continuationCount}
+use Rattle.model.specs.Queue.{Queue, emptyQueue, bearable, bearableIn, run, arrive, eachTotal, continuations, bearableQueues, queueCount, placeIn, numberOf, continuationCount}
 use Rattle.model.specs.Reading.{Answer, refused, numberIn, readSpeeds, readJobs, readCounted, read}
 use Rattle.model.specs.Reading
 use Rattle.model.specs.Refusal.{speedsRefusal, jobsRefusal, refusal9, N, refusalGiven, sheetRefusal}
-use Rattle.model.specs.Stepper.{State, queueRight, stateRight, startRefusal, start, planByte, byteRight, speedRefusal, speed, isEntry, moved, advanceRefusal, advance}
+use Rattle.model.specs.Stepper.{State, stateRight, startRefusal, start, planByte, byteRight, speedRefusal, speed, isEntry, moved, advanceRefusal, advance}
 use Rattle.model.specs.Tests.{check, _then_, everywhere, anywhere, firstPlace, greatest, listed}
 
 -- tests of equality
@@ -99,5 +99,5 @@ firstFailing place (c ∷ rest) = check (test c) (suc place) then firstFailing (
 
 -- the computation: every case passes its test
 pub cases-pass : firstFailing 0 cases ≡ 0
-unfolding cases casesP casesOfPlans casesOfQueues casesOfRefusals casesOfBytes casesOfSteps firstFailing test quickN orderly byteTest decidesTest costTest rowTest sameOption sameAnswer sameState sameBool sum sumOrNone cheaper best priced choice value plan codeIn speedBytes jobBytes sheetBytes writeRefusal write speedsOf onSheet energyOf W M greatestEnergy G nextQueue processOf admissible planRefusal rowRefusal row bearable run arrive eachTotal continuations bearableQueues queueCount placeIn numberOf continuationCount numberIn readSpeeds readJobs readCounted read speedsRefusal jobsRefusal refusal9 N refusalGiven sheetRefusal queueRight stateRight startRefusal start planByte byteRight speedRefusal speed isEntry moved advanceRefusal advance everywhere anywhere firstPlace greatest listed same
+unfolding cases casesP casesOfPlans casesOfQueues casesOfRefusals casesOfBytes casesOfSteps firstFailing test quickN orderly byteTest decidesTest costTest rowTest sameOption sameAnswer sameState sameBool sum sumOrNone cheaper best priced choice value plan codeIn speedBytes jobBytes sheetBytes writeRefusal write speedsOf onSheet energyOf W M greatestEnergy G nextQueue processOf admissible planRefusal rowRefusal row bearable bearableIn run arrive eachTotal continuations bearableQueues queueCount placeIn numberOf continuationCount numberIn readSpeeds readJobs readCounted read speedsRefusal jobsRefusal refusal9 N refusalGiven sheetRefusal stateRight startRefusal start planByte byteRight speedRefusal speed isEntry moved advanceRefusal advance everywhere anywhere firstPlace greatest listed same
 cases-pass = refl

@@ -335,6 +335,11 @@ number-empty M D =
     ap (λ (n : ℕ). placeIn (continuations M n 0 0) (emptyQueue D)) (length-totals D (λ u. 0)) ∙
     ap (λ (l : List Queue). placeIn l (emptyQueue D)) (first .1) ∙ place-first (emptyQueue D) (first .0)
 
+-- the empty queue is the first of the list
+pub empty-first : (M D : ℕ) → getD (bearableQueues M D) 0 [] ≡ emptyQueue D
+unfolding bearableQueues
+empty-first M D = ap (λ (l : List Queue). getD l 0 []) (continuations-first M D 0 0 .1)
+
 count-positive : (M r g : ℕ) → 1 ≤ continuationCount M r g
 unfolding continuationCount sum
 count-positive M zero g = le-refl 1

@@ -11,6 +11,7 @@ use Rattle.process.specs.Pairing.{Rising}
 use Rattle.model.specs.Counted.{Counted, speedAt, energyAt, weightAt, sizeAt, deadlineAt, speedsOf, W, M, G}
 use Rattle.model.specs.Refusal.{boundRight, speedCountRight, speedRight, energyRight, horizonRight, jobCountRight, weightRight, sizeRight, deadlineRight, speedsRefusal, jobsRefusal, refusal9, refusalGiven, sheetRefusal, valueLimit, N}
 use Rattle.model.specs.Tests.{check, _then_, within}
+use Rattle.model.proofs.Queues.{at-least-two}
 use Rattle.model.proofs.Counted.{climbs-rise, on-sheet-at, speed-upto}
 use Rattle.model.proofs.Tests.{and-left, and-right, check-zero, then-left, then-right, greatest-upto}
 
@@ -123,3 +124,8 @@ M-low s e =
 pub M-high : (s : Counted) → sheetRefusal s ≡ 0 → M s ≤ 8
 unfolding M
 M-high s e = greatest-upto (speedAt s) (s .speedCount) 8 (accepted s e .speed-high)
+
+-- N is at least 2, so that an empty row always means that there is none
+pub N-low : (s : Counted) → sheetRefusal s ≡ 0 → 2 ≤ N s
+unfolding N
+N-low s e = at-least-two (M s) (s .bound) (M-low s e) (accepted s e .bound-low)

@@ -7,12 +7,12 @@ use mathlib.Core.List.{List, [], _∷_, _++_}
 use mathlib.Core.Option.{Option, none, some}
 use lib.ListN.{length, getD, take, replicate, set}
 use Rattle.model.specs.Bytes.{code, sheetBytes, write}
-use Rattle.model.specs.Counted.{Counted, counted, padded}
+use Rattle.model.specs.Counted.{Counted, counted}
 use Rattle.model.specs.Plan.{IsValueAt, IsCostAt, IsPlanByte, Decided, FromEmpty, valueIn, admissible, row}
-use Rattle.model.specs.Queue.{Queue, emptyQueue, run, arrive, queueCount, numberOf, bearable}
+use Rattle.model.specs.Queue.{Queue, emptyQueue, placesOf, run, arrive, queueCount, numberOf, bearable}
 use Rattle.model.specs.Reading.{Answer, value, refused, field, read}
 use Rattle.model.specs.Refusal.{sheetRefusal, N}
-use Rattle.model.specs.Stepper.{State, Stepped, Told, start, speed, advance, zeroState, positions}
+use Rattle.model.specs.Stepper.{State, Stepped, Told, start, speed, advance, zeroState}
 use Rattle.model.specs.declared.Job.{Job}
 use Rattle.model.specs.declared.Speed.{Speed}
 
@@ -74,7 +74,7 @@ sheet D speeds T jobs =
 
 -- a state; its queue is padded to six places
 abbrev pub state : Queue → ℕ → ℕ → State
-state w slot energy = record { queue = padded positions 0 w; slot = slot; energy = energy }
+state w slot energy = record { queue = placesOf w; slot = slot; energy = energy }
 
 -- "Sheet A: D 2; speeds 0, 1, 2 with energies 0, 1, 4; T 2; jobs (weight 1, size 0, deadline 1) and (1, 2, 2)"
 abbrev pub A : Counted

@@ -1,13 +1,13 @@
 -- The sheet of document 01, "The sheet", as the places that count: "In memory a sheet has room for all entries; places past the counts
 -- are ignored by every call". Every rule is said of this view, so that places past the counts cannot matter; two sheets are the same
 -- "in every place that counts" where their views are equal.
-use Prim.Native.Nat.{ℕ, _+_}
+use Prim.Native.Nat.{ℕ}
 use mathlib.Core.Bool.{Bool, cond}
-use mathlib.Core.List.{List, _++_}
+use mathlib.Core.List.{List}
 use lib.Dec.{eqb}
 use lib.ListN.{take, getD, replicate}
 use Rattle.process.specs.Sums.{sum}
-use Rattle.model.specs.Tests.{greatest, listed, anywhere, firstPlace}
+use Rattle.model.specs.Tests.{greatest, listed, anywhere, firstPlace, padded}
 use Rattle.model.specs.declared.Job.{Job}
 use Rattle.model.specs.declared.Sheet.{Sheet}
 use Rattle.model.specs.declared.Speed.{Speed}
@@ -37,10 +37,6 @@ zeroSpeed = record { speed = 0; energy = 0 }
 
 abbrev pub zeroJob : Job
 zeroJob = record { weight = 0; size = 0; deadline = 0 }
-
--- a list in n places, the ones past its end filled with `zeros`
-abbrev pub padded {ℓ} : {A : Type ℓ} → ℕ → A → List A → List A
-padded n zeros l = take n (l ++ replicate n zeros)
 
 -- "Write then read gives the sheet with those places zero": the counted places in memory, and zero in every other
 abbrev pub inMemory : Counted → Sheet

@@ -2,10 +2,10 @@
 use Prim.Native.Nat.{ℕ, zero, suc, _+_, _*_, _-_, min}
 use mathlib.Core.Bool.{Bool, cond, _&&_}
 use mathlib.Core.List.{List, [], _∷_, _++_, map}
-use lib.Dec.{leb}
-use lib.ListN.{length, getD}
+use lib.Dec.{leb, eqb}
+use lib.ListN.{length, getD, take}
 use Rattle.process.specs.Sums.{sum, same}
-use Rattle.model.specs.Tests.{everywhere, listed}
+use Rattle.model.specs.Tests.{everywhere, listed, padded}
 
 -- "A queue is w(1) to w(D), never falling; w(u) is the work that must be done within u slots": a list of D totals
 abbrev pub Queue : Type 0
@@ -27,6 +27,24 @@ emptyQueue D = totals D (λ u. 0)
 -- "It is bearable (finishable) when w(u) is at most u times M for each u", and a queue never falls
 unfoldable pub bearable : ℕ → Queue → Bool
 bearable M w = everywhere (λ i. leb (total w i) (total w (suc i)) && leb (total w (suc i)) (suc i * M)) (length w)
+
+-- in memory a queue stands in six places: "Positions past D are unused and zero"
+
+abbrev pub positions : ℕ
+positions = 6
+
+-- w(1) to w(D) of what stands in the places
+abbrev pub queueIn : ℕ → List ℕ → Queue
+queueIn D places = take D places
+
+-- the queue in its places, the unused ones zero
+abbrev pub placesOf : Queue → List ℕ
+placesOf w = padded positions 0 w
+
+-- of 13: what stands in the places is a bearable queue of D positions, unless "the queue falls or is not bearable, an unused position is
+-- not zero"
+unfoldable pub bearableIn : ℕ → ℕ → List ℕ → Bool
+bearableIn M D places = bearable M (queueIn D places) && everywhere (λ i. eqb (getD places (D + i) 0) 0) (positions - D)
 
 -- "One slot at speed s ..: first w'(u) = w(u+1) - s, or 0 if that is negative, with w(D) standing for w(D+1)"
 unfoldable pub run : Queue → ℕ → Queue

@@ -1,24 +1,21 @@
 -- Document 01, "The stepper": start, speed and advance as functions from what they are given to what they answer, each with its order of
 -- refusals.
-use Prim.Native.Nat.{ℕ, suc, _+_, _*_, _-_}
+use Prim.Native.Nat.{ℕ, suc, _+_, _*_}
 use mathlib.Core.Bool.{Bool, cond, _&&_, not}
 use mathlib.Core.List.{List}
 use lib.Dec.{leb, eqb}
-use lib.ListN.{length, getD, take, replicate}
-use Rattle.model.specs.Counted.{Counted, sizeAt, deadlineAt, onSheet, energyOf, greatestEnergy, padded, M}
+use lib.ListN.{length, getD, replicate}
+use Rattle.model.specs.Counted.{Counted, sizeAt, deadlineAt, onSheet, energyOf, greatestEnergy, M}
 use Rattle.model.specs.Plan.{placeAt, planNeeded}
-use Rattle.model.specs.Queue.{Queue, total, bearable, run, arrive, numberOf}
+use Rattle.model.specs.Queue.{Queue, total, positions, queueIn, placesOf, bearable, bearableIn, run, arrive, numberOf}
 use Rattle.model.specs.Refusal.{sheetRefusal}
-use Rattle.model.specs.Tests.{check, _then_, everywhere, anywhere}
+use Rattle.model.specs.Tests.{check, _then_, anywhere}
 
--- "A state has a queue, a slot number and the energy spent." The queue stands in six places: "Positions past D are unused and zero"
+-- "A state has a queue, a slot number and the energy spent": the queue as it stands in its six places
 pub record State : Type 0 where
   pub queue : List ℕ
   pub slot : ℕ
   pub energy : ℕ
-
-abbrev pub positions : ℕ
-positions = 6
 
 -- "an all-zero state"
 abbrev pub zeroState : State
@@ -26,12 +23,11 @@ zeroState = record { queue = replicate positions 0; slot = 0; energy = 0 }
 
 -- w(1) to w(D)
 abbrev pub queueOf : Counted → State → Queue
-queueOf s x = take (s .bound) (x .queue)
+queueOf s x = queueIn (s .bound) (x .queue)
 
--- of 13: "the queue falls or is not bearable, an unused position is not zero"
-unfoldable pub queueRight : Counted → State → Bool
-queueRight s x =
-    bearable (M s) (queueOf s x) && everywhere (λ i. eqb (getD (x .queue) (s .bound + i) 0) 0) (positions - s .bound)
+-- what 13 says of the queue
+abbrev pub queueRight : Counted → State → Bool
+queueRight s x = bearableIn (M s) (s .bound) (x .queue)
 
 -- 13 whole: ".. the slot is above T, or the energy is above the slot number times the greatest energy"
 unfoldable pub stateRight : Counted → State → Bool
@@ -88,7 +84,7 @@ isEntry s size deadline = anywhere (λ i. eqb (sizeAt s i) size && eqb (deadline
 unfoldable pub moved : Counted → State → ℕ → ℕ → ℕ → State
 moved s x byte size deadline =
     record {
-      queue = padded positions 0 (arrive (run (queueOf s x) byte) size deadline);
+      queue = placesOf (arrive (run (queueOf s x) byte) size deadline);
       slot = suc (x .slot);
       energy = x .energy + energyOf s byte;
     }

@@ -1,9 +1,10 @@
--- How document 01's tests are put together: a test with its number, several tests in order, and the small loops over places 0 to n-1
--- that all the rules are said with.
+-- How document 01's tests are put together: a test with its number, several tests in order; and the small loops over places 0 to n-1 and
+-- lists that all the rules are said with.
 use Prim.Native.Nat.{ℕ, zero, suc, max}
 use mathlib.Core.Bool.{Bool, true, false, cond, _&&_, _||_}
-use mathlib.Core.List.{List, [], _∷_}
+use mathlib.Core.List.{List, [], _∷_, _++_}
 use lib.Dec.{leb, ltb}
+use lib.ListN.{take, replicate}
 
 -- a test that passes gives 0, one that fails gives its number
 abbrev pub check : Bool → ℕ → ℕ
@@ -45,3 +46,7 @@ greatest f (suc n) = max (greatest f n) (f n)
 unfoldable pub listed {ℓ} : {A : Type ℓ} → (ℕ → A) → ℕ → List A
 listed f zero = []
 listed f (suc n) = f zero ∷ listed (λ i. f (suc i)) n
+
+-- a list in n places, the ones past its end filled with `zeros`
+abbrev pub padded {ℓ} : {A : Type ℓ} → ℕ → A → List A → List A
+padded n zeros l = take n (l ++ replicate n zeros)
