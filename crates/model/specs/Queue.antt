@@ -63,7 +63,7 @@ unfoldable pub eachTotal : (ℕ → ℕ → List Queue) → ℕ → ℕ → List
 eachTotal continued x zero = []
 eachTotal continued x (suc c) = map (λ rest. x ∷ rest) (continued x c) ++ eachTotal continued (suc x) c
 
--- all ways to fill r positions more after a total w with slack g
+-- all that can fill r positions more after a total w with slack g
 unfoldable pub continuations : ℕ → ℕ → ℕ → ℕ → List Queue
 continuations M zero w g = [] ∷ []
 continuations M (suc r) w g = eachTotal (continuations M r) w (suc (g + M))
