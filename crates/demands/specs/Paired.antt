@@ -1,12 +1,12 @@
 -- Demand 3's premise: "Sheets paired job by job (no larger, due no sooner, every speed at no more energy, a queue nowhere longer)".
-use Prim.Native.Nat.{ℕ, suc, _≤_, _<_}
+use Prim.Native.Nat.{ℕ, _≤_, _<_}
 use mathlib.Core.Path.{_≡_}
 use mathlib.Core.Logic.{_⊎_}
 use lib.Dec.{T}
 use lib.ListN.{length}
 use Rattle.process.specs.Pairing.{OneToOne}
 use Rattle.model.specs.Counted.{Counted, weightAt, sizeAt, deadlineAt, onSheet, energyOf}
-use Rattle.model.specs.Queue.{Queue, total}
+use Rattle.model.specs.Queue.{Queue, NeverFalls, NoLonger}
 use Rattle.model.specs.Refusal.{sheetRefusal}
 
 -- two accepted sheets; the entry of `first` at place i is paired with that of `second` at place `there i`
@@ -29,5 +29,5 @@ pub record Paired (first second : Counted) (there back : ℕ → ℕ) : Type 0 w
 -- the queue v is nowhere longer than w, position by position; being a queue it never falls
 pub record NowhereLonger (v w : Queue) : Type 0 where
   pub positions : length v ≡ length w
-  pub never-falls : (u : ℕ) → u < length v → total v u ≤ total v (suc u)
-  pub no-longer : (u : ℕ) → total v u ≤ total w u
+  pub never-falls : NeverFalls v
+  pub no-longer : NoLonger v w

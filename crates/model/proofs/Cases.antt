@@ -1,10 +1,10 @@
 -- The cases of specs/Cases.antt hold: a test that is computed, one lemma that turns the test into what a case means, and one computation
 -- over the whole list.
 use Prim.Native.Nat.{ℕ, zero, suc, pred, _-_, _<_}
-use mathlib.Core.Path.{_≡_, refl, sym, ap, _∙_, subst}
+use mathlib.Core.Path.{_≡_, refl, sym, ap, _∙_, subst, fun-ext}
 use mathlib.Core.Bool.{Bool, true, false, _&&_}
 use mathlib.Core.List.{List, [], _∷_}
-use mathlib.Core.Option.{Option, none, some}
+use mathlib.Core.Option.{Option, none, some, Option·getD}
 use native.Mathlib.Omega.{arith}
 use lib.Dec.{T, eqb, ltb, eqb→eq, ltb→lt}
 use lib.ListN.{length, getD}
@@ -13,16 +13,19 @@ use Rattle.process.specs.Recursion.{priced, value, plan}
 use Rattle.process.specs.Ways.{IsValue, IsCost, IsFirst}
 use Rattle.process.proofs.Sums.{same-true}
 use Rattle.process.proofs.Value.{value-is, first-is, cost-is}
-use Rattle.model.specs.Cases.{Case, planned, worth, decides, answers, costs, refuses, counts, fields, steps, tells, numbers, lists, tests, Holds, AllHold, cases}
-use Rattle.model.specs.Counted.{Counted, speedAt, weightAt, onSheet, M}
-use Rattle.model.specs.Plan.{processOf, IsValueAt, IsPlanByte, queueAt, valueIn, number12, orZero}
+use Rattle.model.specs.Cases.{Case, planned, valued, decides, answers, costs, refuses, reads, views, counts, fields, steps, tells, numbers, lists, tests, Holds, AllHold, cases}
+use Rattle.model.specs.Counted.{Counted, counted, speedAt, weightAt, onSheet, M}
+use Rattle.model.specs.Plan.{processOf, IsValueAt, IsPlanByte, queueAt, valueIn, number12}
 use Rattle.model.specs.Queue.{Queue, emptyQueue, bearable, continuationCount}
-use Rattle.model.specs.Reading.{Answer, refused}
+use Rattle.model.specs.Reading.{Answer, refused, readCounted, ReadSheet, readAnswer, read}
 use Rattle.model.specs.Reading
 use Rattle.model.specs.Refusal.{N, refusalGiven, sheetRefusal}
 use Rattle.model.specs.Stepper.{State, speed}
+use Rattle.model.specs.declared.Job.{Job}
+use Rattle.model.specs.declared.Sheet.{Sheet}
+use Rattle.model.specs.declared.Speed.{Speed}
 use Rattle.model.specs.Tests.{check, everywhere}
-use Rattle.model.proofs.Computed.{sameOption, sameAnswer, sameState, sameBool, quickN, orderly, valueFor, byteTest, decidesTest, costTest, rowTest, test, firstFailing, cases-pass}
+use Rattle.model.proofs.Computed.{sameOption, sameAnswer, sameState, sameBy, sameSpeed, sameJob, sameCounted, whole, sameBool, quickN, orderly, valueFor, byteTest, decidesTest, costTest, rowTest, test, firstFailing, cases-pass}
 use Rattle.model.proofs.Counted.{Climbs, climbs-rise, on-sheet}
 use Rattle.model.proofs.Queues.{queue-count}
 use Rattle.model.proofs.Tests.{and-left, and-right, check-zero, then-left, then-right, everywhere-at}
@@ -67,6 +70,50 @@ sameState-true x y t =
     let e = eqb→eq (x .energy) (y .energy) (told .2) in
     λ i. record { queue = q i; slot = s i; energy = e i }
 
+sameBy-true : {A : Type 0} (alike : A → A → Bool) → ((a b : A) → T (alike a b) → a ≡ b) → (l m : List A) → T (sameBy alike l m) → l ≡ m
+unfolding sameBy
+sameBy-true alike right [] [] t = refl
+sameBy-true alike right [] (b ∷ m) t = absurd t
+sameBy-true alike right (a ∷ l) [] t = absurd t
+sameBy-true alike right (a ∷ l) (b ∷ m) t =
+    let d = right a b (and-left (alike a b) (sameBy alike l m) t) in
+    let e = sameBy-true alike right l m (and-right (alike a b) (sameBy alike l m) t) in
+    λ i. d i ∷ e i
+
+sameSpeed-true : (a b : Speed) → T (sameSpeed a b) → a ≡ b
+unfolding sameSpeed
+sameSpeed-true a b t =
+    let d = eqb→eq (a .speed) (b .speed) (and-left (eqb (a .speed) (b .speed)) (eqb (a .energy) (b .energy)) t) in
+    let e = eqb→eq (a .energy) (b .energy) (and-right (eqb (a .speed) (b .speed)) (eqb (a .energy) (b .energy)) t) in
+    λ i. record { speed = d i; energy = e i }
+
+sameJob-true : (a b : Job) → T (sameJob a b) → a ≡ b
+unfolding sameJob
+sameJob-true a b t =
+    let told = and-three (eqb (a .weight) (b .weight)) (eqb (a .size) (b .size)) (eqb (a .deadline) (b .deadline)) t in
+    let d = eqb→eq (a .weight) (b .weight) (told .0) in
+    let e = eqb→eq (a .size) (b .size) (told .1) in
+    let f = eqb→eq (a .deadline) (b .deadline) (told .2) in
+    λ i. record { weight = d i; size = e i; deadline = f i }
+
+sameCounted-true : (s z : Counted) → T (sameCounted s z) → s ≡ z
+unfolding sameCounted
+sameCounted-true s z t =
+    let fieldsOf : Counted → List ℕ = λ x. x .bound ∷ x .speedCount ∷ x .horizon ∷ x .jobCount ∷ [] in
+    let told = and-three (same (fieldsOf s) (fieldsOf z)) (sameBy sameSpeed (s .speeds) (z .speeds)) (sameBy sameJob (s .jobs) (z .jobs)) t in
+    let e = same-true (fieldsOf s) (fieldsOf z) (told .0) in
+    let speeds = sameBy-true sameSpeed sameSpeed-true (s .speeds) (z .speeds) (told .1) in
+    let jobs = sameBy-true sameJob sameJob-true (s .jobs) (z .jobs) (told .2) in
+    λ i.
+    record {
+      bound = getD (e i) 0 0;
+      speedCount = getD (e i) 1 0;
+      speeds = speeds i;
+      horizon = getD (e i) 2 0;
+      jobCount = getD (e i) 3 0;
+      jobs = jobs i;
+    }
+
 sameBool-true : (a b : Bool) → T (sameBool a b) → a ≡ b
 unfolding sameBool
 sameBool-true true true t = refl
@@ -81,6 +128,22 @@ quickN-is s = queue-count (M s) (s .bound)
 refusal-is : (s : Counted) → sheetRefusal s ≡ refusalGiven (quickN s) s
 unfolding sheetRefusal
 refusal-is s = ap (λ (n : ℕ). refusalGiven n s) (quickN-is s)
+
+read-is : (bytes : List ℕ) → read bytes ≡ readAnswer (readCounted quickN bytes 0)
+unfolding read
+read-is bytes = ap (λ (queues : Counted → ℕ). readAnswer (readCounted queues bytes 0)) (fun-ext quickN-is)
+
+-- `whole` taken back
+unwhole : Counted → Sheet
+unwhole s =
+    record {
+      bound = s .bound;
+      «speed_count» = s .speedCount;
+      speeds = s .speeds;
+      horizon = s .horizon;
+      «job_count» = s .jobCount;
+      jobs = s .jobs;
+    }
 
 orderly-true : (s : Counted) → T (orderly s) → (0 < s .jobCount) × Climbs s
 unfolding orderly
@@ -150,9 +213,9 @@ planned-sound s t values plan b =
 
 -- a case whose test passes holds
 sound : (c : Case) → T (test c) → Holds c
-unfolding test
+unfolding test unwhole
 sound (planned s t values plan) b = planned-sound s t values plan b
-sound (worth s t w r) b =
+sound (valued s t w r) b =
     value-sound s (and-left (orderly s) (sameOption (valueFor s (s .horizon - t) w) r) b) (s .horizon - t) w r
     (and-right (orderly s) (sameOption (valueFor s (s .horizon - t) w) r) b) .1
 sound (decides s t w r byte) b =
@@ -160,13 +223,13 @@ sound (decides s t w r byte) b =
     (and-right (orderly s) (decidesTest s (s .horizon - t) w r byte) b)
 sound (answers s number queues least) b =
     let r = valueFor s (s .horizon - 0) (emptyQueue (s .bound)) in
-    let told = and-four (orderly s) (eqb number (number12 r)) (eqb least (orZero r)) (eqb (quickN s) queues) b in (
+    let told = and-four (orderly s) (eqb number (number12 r)) (eqb least (Option·getD r 0)) (eqb (quickN s) queues) b in (
       record {
         r = r;
         is-value =
             value-is (processOf s) (s .jobCount) (weightAt s) (orderly-true s (told .0) .0) (s .horizon - 0) (emptyQueue (s .bound));
         number = eqb→eq number (number12 r) (told .1);
-        least = eqb→eq least (orZero r) (told .2);
+        least = eqb→eq least (Option·getD r 0) (told .2);
       },
       quickN-is s ∙ eqb→eq (quickN s) queues (told .3),
     )
@@ -174,6 +237,17 @@ sound (costs s t w a v) b =
     cost-sound s (and-left (orderly s) (costTest s (s .horizon - t) w a v) b) (s .horizon - t) w a v
     (and-right (orderly s) (costTest s (s .horizon - t) w a v) b)
 sound (refuses s number) b = refusal-is s ∙ eqb→eq (refusalGiven (quickN s) s) number b
+sound (reads bytes number memory) b =
+    let quick = readAnswer (readCounted quickN bytes 0) in
+    let told : T (eqb (quick .number) number) × T (sameCounted (whole (quick .sheet)) (whole memory)) = (
+      and-left (eqb (quick .number) number) (sameCounted (whole (quick .sheet)) (whole memory)) b,
+      and-right (eqb (quick .number) number) (sameCounted (whole (quick .sheet)) (whole memory)) b,
+    ) in
+    let e = sameCounted-true (whole (quick .sheet)) (whole memory) (told .1) in (
+      ap (λ (r : ReadSheet). r .number) (read-is bytes) ∙ eqb→eq (quick .number) number (told .0),
+      ap (λ (r : ReadSheet). r .sheet) (read-is bytes) ∙ ap unwhole e,
+    )
+sound (views memory s) b = sameCounted-true (counted memory) s b
 sound (counts M D n) b = queue-count M D ∙ eqb→eq (continuationCount M D 0) n b
 sound (fields found expected) b = sameAnswer-true found expected b
 sound (steps answer number state) b = (

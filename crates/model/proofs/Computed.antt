@@ -4,20 +4,23 @@ use Prim.Native.Nat.{ℕ, zero, suc, pred, _-_}
 use mathlib.Core.Path.{_≡_, refl}
 use mathlib.Core.Bool.{Bool, true, false, _&&_, not}
 use mathlib.Core.List.{List, [], _∷_}
-use mathlib.Core.Option.{Option, none, some}
+use mathlib.Core.Option.{Option, none, some, Option·getD}
 use lib.Dec.{eqb, ltb}
 use lib.ListN.{length, getD}
 use Rattle.process.specs.Sums.{sum, same}
 use Rattle.process.specs.Recursion.{sumOrNone, cheaper, best, priced, choice, value, plan}
 use Rattle.model.specs.Bytes.{codeIn, speedBytes, jobBytes, sheetBytes, writeRefusal, write}
-use Rattle.model.specs.Cases.{Case, planned, worth, decides, answers, costs, refuses, counts, fields, steps, tells, numbers, lists, tests, casesP, casesOfPlans, casesOfQueues, casesOfRefusals, casesOfBytes, casesOfSteps, cases}
-use Rattle.model.specs.Counted.{Counted, speedAt, weightAt, speedsOf, onSheet, energyOf, W, M, greatestEnergy, G}
-use Rattle.model.specs.Plan.{nextQueue, processOf, admissible, queueAt, valueIn, number12, orZero, planRefusal, rowRefusal, row}
+use Rattle.model.specs.Cases.{Case, planned, valued, decides, answers, costs, refuses, reads, views, counts, fields, steps, tells, numbers, lists, tests, casesP, casesOfPlans, casesOfQueues, casesOfRefusals, casesOfBytes, casesOfSteps, cases}
+use Rattle.model.specs.Counted.{Counted, counted, speedAt, weightAt, speedsOf, onSheet, energyOf, W, M, greatestEnergy, G}
+use Rattle.model.specs.Plan.{nextQueue, processOf, admissible, queueAt, valueIn, number12, planRefusal, rowRefusal, row}
 use Rattle.model.specs.Queue.{Queue, emptyQueue, bearable, bearableIn, run, arrive, eachTotal, continuations, bearableQueues, queueCount, placeIn, numberOf, continuationCount}
-use Rattle.model.specs.Reading.{Answer, refused, numberIn, readSpeeds, readJobs, readCounted, read}
+use Rattle.model.specs.Reading.{Answer, refused, numberIn, readSpeeds, readJobs, readCounted, readAnswer}
 use Rattle.model.specs.Reading
 use Rattle.model.specs.Refusal.{speedsRefusal, jobsRefusal, refusal9, N, refusalGiven, sheetRefusal}
 use Rattle.model.specs.Stepper.{State, stateRight, startRefusal, start, planByte, byteRight, speedRefusal, speed, isEntry, moved, advanceRefusal, advance}
+use Rattle.model.specs.declared.Job.{Job}
+use Rattle.model.specs.declared.Sheet.{Sheet}
+use Rattle.model.specs.declared.Speed.{Speed}
 use Rattle.model.specs.Tests.{check, _then_, everywhere, anywhere, firstPlace, greatest, listed}
 
 -- tests of equality
@@ -36,6 +39,35 @@ sameAnswer (refused m) (refused n) = eqb m n
 
 unfoldable pub sameState : State → State → Bool
 sameState x y = same (x .queue) (y .queue) && (eqb (x .slot) (y .slot) && eqb (x .energy) (y .energy))
+
+unfoldable pub sameBy : {A : Type 0} → (A → A → Bool) → List A → List A → Bool
+sameBy alike [] [] = true
+sameBy alike [] (b ∷ m) = false
+sameBy alike (a ∷ l) [] = false
+sameBy alike (a ∷ l) (b ∷ m) = alike a b && sameBy alike l m
+
+unfoldable pub sameSpeed : Speed → Speed → Bool
+sameSpeed a b = eqb (a .speed) (b .speed) && eqb (a .energy) (b .energy)
+
+unfoldable pub sameJob : Job → Job → Bool
+sameJob a b = eqb (a .weight) (b .weight) && (eqb (a .size) (b .size) && eqb (a .deadline) (b .deadline))
+
+unfoldable pub sameCounted : Counted → Counted → Bool
+sameCounted s z =
+    same (s .bound ∷ s .speedCount ∷ s .horizon ∷ s .jobCount ∷ []) (z .bound ∷ z .speedCount ∷ z .horizon ∷ z .jobCount ∷ []) &&
+    (sameBy sameSpeed (s .speeds) (z .speeds) && sameBy sameJob (s .jobs) (z .jobs))
+
+-- a sheet in memory, with all its places
+abbrev pub whole : Sheet → Counted
+whole s =
+    record {
+      bound = s .bound;
+      speedCount = s .«speed_count»;
+      speeds = s .speeds;
+      horizon = s .horizon;
+      jobCount = s .«job_count»;
+      jobs = s .jobs;
+    }
 
 unfoldable pub sameBool : Bool → Bool → Bool
 sameBool true b = b
@@ -77,13 +109,17 @@ rowTest s t values plan i = decidesTest s (s .horizon - t) (queueAt s i) (valueI
 unfoldable pub test : Case → Bool
 test (planned s t values plan) =
     orderly s && (eqb (length values) (quickN s) && (eqb (length plan) (quickN s) && everywhere (rowTest s t values plan) (quickN s)))
-test (worth s t w r) = orderly s && sameOption (valueFor s (s .horizon - t) w) r
+test (valued s t w r) = orderly s && sameOption (valueFor s (s .horizon - t) w) r
 test (decides s t w r byte) = orderly s && decidesTest s (s .horizon - t) w r byte
 test (answers s number queues least) =
     let r = valueFor s (s .horizon - 0) (emptyQueue (s .bound)) in
-    orderly s && (eqb number (number12 r) && (eqb least (orZero r) && eqb (quickN s) queues))
+    orderly s && (eqb number (number12 r) && (eqb least (Option·getD r 0) && eqb (quickN s) queues))
 test (costs s t w a v) = orderly s && costTest s (s .horizon - t) w a v
 test (refuses s number) = eqb (refusalGiven (quickN s) s) number
+test (reads bytes number memory) =
+    let answer = readAnswer (readCounted quickN bytes 0) in
+    eqb (answer .number) number && sameCounted (whole (answer .sheet)) (whole memory)
+test (views memory s) = sameCounted (counted memory) s
 test (counts M D n) = eqb (continuationCount M D 0) n
 test (fields found expected) = sameAnswer found expected
 test (steps answer number state) = eqb (answer .number) number && sameState (answer .state) state
@@ -99,5 +135,5 @@ firstFailing place (c ∷ rest) = check (test c) (suc place) then firstFailing (
 
 -- the computation: every case passes its test
 pub cases-pass : firstFailing 0 cases ≡ 0
-unfolding cases casesP casesOfPlans casesOfQueues casesOfRefusals casesOfBytes casesOfSteps firstFailing test quickN orderly byteTest decidesTest costTest rowTest sameOption sameAnswer sameState sameBool sum sumOrNone cheaper best priced choice value plan codeIn speedBytes jobBytes sheetBytes writeRefusal write speedsOf onSheet energyOf W M greatestEnergy G nextQueue processOf admissible planRefusal rowRefusal row bearable bearableIn run arrive eachTotal continuations bearableQueues queueCount placeIn numberOf continuationCount numberIn readSpeeds readJobs readCounted read speedsRefusal jobsRefusal refusal9 N refusalGiven sheetRefusal stateRight startRefusal start planByte byteRight speedRefusal speed isEntry moved advanceRefusal advance everywhere anywhere firstPlace greatest listed same
+unfolding cases casesP casesOfPlans casesOfQueues casesOfRefusals casesOfBytes casesOfSteps firstFailing test quickN orderly byteTest decidesTest costTest rowTest sameOption sameAnswer sameState sameBy sameSpeed sameJob sameCounted sameBool sum sumOrNone cheaper best priced choice value plan codeIn speedBytes jobBytes sheetBytes writeRefusal write speedsOf onSheet energyOf W M greatestEnergy G nextQueue processOf admissible planRefusal rowRefusal row bearable bearableIn run arrive eachTotal continuations bearableQueues queueCount placeIn numberOf continuationCount numberIn readSpeeds readJobs readCounted speedsRefusal jobsRefusal refusal9 N refusalGiven sheetRefusal stateRight startRefusal start planByte byteRight speedRefusal speed isEntry moved advanceRefusal advance everywhere anywhere firstPlace greatest listed same
 cases-pass = refl

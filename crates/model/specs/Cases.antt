@@ -8,19 +8,20 @@ use mathlib.Core.Option.{Option, none, some}
 use lib.ListN.{length, getD, take, replicate, set}
 use Rattle.model.specs.Bytes.{code, sheetBytes, write}
 use Rattle.model.specs.Counted.{Counted, counted}
-use Rattle.model.specs.Plan.{IsValueAt, IsCostAt, IsPlanByte, Decided, FromEmpty, valueIn, admissible, row}
+use Rattle.model.specs.Plan.{IsValueAt, IsCostAt, IsPlanByte, Decided, FromEmpty, valueIn, admissible, planRefusal, row}
 use Rattle.model.specs.Queue.{Queue, emptyQueue, placesOf, run, arrive, queueCount, numberOf, bearable}
 use Rattle.model.specs.Reading.{Answer, value, refused, field, read}
 use Rattle.model.specs.Refusal.{sheetRefusal, N}
-use Rattle.model.specs.Stepper.{State, Stepped, Told, start, speed, advance, zeroState}
+use Rattle.model.specs.Stepper.{State, Stepped, Told, start, speed, advance}
 use Rattle.model.specs.declared.Job.{Job}
+use Rattle.model.specs.declared.Sheet.{Sheet}
 use Rattle.model.specs.declared.Speed.{Speed}
 
 pub data Case : Type 0 where
   -- a row of values and a row of plan bytes are those of a sheet's slot, each queue in order
   planned : Counted → ℕ → List ℕ → List ℕ → Case
   -- the value of a sheet's slot and a queue
-  worth : Counted → ℕ → Queue → Option ℕ → Case
+  valued : Counted → ℕ → Queue → Option ℕ → Case
   -- the value and the plan byte of a sheet's slot and a queue
   decides : Counted → ℕ → Queue → Option ℕ → ℕ → Case
   -- what the planner answers for a sheet: the number, N and the least energy
@@ -29,6 +30,10 @@ pub data Case : Type 0 where
   costs : Counted → ℕ → Queue → ℕ → ℕ → Case
   -- the number of a sheet
   refuses : Counted → ℕ → Case
+  -- what reading bytes answers: the number, and the sheet with every place of it
+  reads : List ℕ → ℕ → Sheet → Case
+  -- the places that count of a sheet in memory
+  views : Sheet → Counted → Case
   -- N for M and D
   counts : ℕ → ℕ → ℕ → Case
   -- what a field, a start or an advance, and a speed call answer
@@ -43,11 +48,13 @@ pub data Case : Type 0 where
 abbrev pub Holds : Case → Type 0
 Holds (planned s t values plan) =
     (length values ≡ N s) × (length plan ≡ N s) × ((i : ℕ) → i < N s → Decided s t i (valueIn values i) (getD plan i 0))
-Holds (worth s t w r) = IsValueAt s t w r
+Holds (valued s t w r) = IsValueAt s t w r
 Holds (decides s t w r byte) = IsValueAt s t w r × IsPlanByte s t w r byte
 Holds (answers s number queues least) = FromEmpty s (record { number = number; queues = queues; least = least }) × (N s ≡ queues)
 Holds (costs s t w speed v) = IsCostAt s t w speed v
 Holds (refuses s number) = sheetRefusal s ≡ number
+Holds (reads bytes number memory) = (read bytes .number ≡ number) × (read bytes .sheet ≡ memory)
+Holds (views memory s) = counted memory ≡ s
 Holds (counts M D n) = queueCount M D ≡ n
 Holds (fields found expected) = found ≡ expected
 Holds (steps answer number state) = (answer .number ≡ number) × (answer .state ≡ state)
@@ -71,6 +78,22 @@ job weight size deadline = record { weight = weight; size = size; deadline = dea
 abbrev pub sheet : ℕ → List Speed → ℕ → List Job → Counted
 sheet D speeds T jobs =
     record { bound = D; speedCount = length speeds; speeds = speeds; horizon = T; jobCount = length jobs; jobs = jobs }
+
+-- a sheet in memory: nine places for speeds and thirty-two for jobs, those past the lists holding `junk`
+abbrev pub memory : ℕ → Counted → Sheet
+memory junk s =
+    record {
+      bound = s .bound;
+      «speed_count» = s .speedCount;
+      speeds = take 9 (s .speeds ++ replicate 9 (at junk junk));
+      horizon = s .horizon;
+      «job_count» = s .jobCount;
+      jobs = take 32 (s .jobs ++ replicate 32 (job junk junk junk));
+    }
+
+-- every place zero
+abbrev pub blank : Sheet
+blank = memory 0 (sheet 0 [] 0 [])
 
 -- a state; its queue is padded to six places
 abbrev pub state : Queue → ℕ → ℕ → State
@@ -212,9 +235,9 @@ casesOfPlans =
     -- (0,3) cannot be reached from empty, and is planned like any other
     decides A 0 (0 ∷ 3 ∷ []) (some 20) 1 ∷
     -- "row T of values is 0 for every bearable queue", and a queue that is not bearable has none
-    worth A 2 (2 ∷ 4 ∷ []) (some 0) ∷
-    worth A 2 (2 ∷ 5 ∷ []) none ∷
-    worth A 0 (3 ∷ 3 ∷ []) none ∷
+    valued A 2 (2 ∷ 4 ∷ []) (some 0) ∷
+    valued A 2 (2 ∷ 5 ∷ []) none ∷
+    valued A 0 (3 ∷ 3 ∷ []) none ∷
     -- at least w(1) is not enough: at (0,4) speed 1 leaves (3,3)
     tests (admissible A (0 ∷ 4 ∷ []) 1) false ∷
     tests (admissible A (0 ∷ 4 ∷ []) 2) true ∷
@@ -227,6 +250,11 @@ casesOfPlans =
     decides coarse 0 (0 ∷ 1 ∷ []) (some 8) 2 ∷
     -- a tie goes to the slower speed
     decides (sheet 1 (at 0 7 ∷ at 1 7 ∷ []) 1 (job 1 0 1 ∷ [])) 0 (emptyQueue 1) (some 7) 0 ∷
+    -- "values, (T+1) times N places ..; and the plan, T times N bytes"
+    numbers (planRefusal A 36 24) 0 ∷
+    numbers (planRefusal A 35 24) 11 ∷
+    numbers (planRefusal A 36 23) 11 ∷
+    numbers (planRefusal crowded 0 0) 5 ∷
     -- the row of a slot, and the empty part
     lists (row A planA 1) A1 ∷
     lists (row A planA 2) [] ∷
@@ -291,6 +319,9 @@ casesOfRefusals =
     refuses (doubling 1 58) 9 ∷
     refuses (doubling 0 57) 0 ∷
     refuses (doubling 0 58) 9 ∷
+    -- T 16, W 8: 16 times 2,048 times 8^16 is 2^63, which is one too many
+    refuses (sheet 1 (at 0 0 ∷ at 1 2047 ∷ []) 16 (job 8 0 1 ∷ [])) 0 ∷
+    refuses (sheet 1 (at 0 0 ∷ at 1 2048 ∷ []) 16 (job 8 0 1 ∷ [])) 9 ∷
     -- 9 is told before 10, and 8 before 9
     refuses (sheet 5 upto6 200 (job 255 0 1 ∷ [])) 9 ∷
     refuses (sheet 5 upto6 200 (job 255 0 6 ∷ [])) 8 ∷
@@ -313,16 +344,31 @@ casesOfBytes =
     fields (field (0xFF ∷ 0xFF ∷ 0x7F ∷ []) 0) (value 2097151 3) ∷
     fields (field (0xFF ∷ 0xFF ∷ 0xFF ∷ 0x01 ∷ []) 0) (refused 2) ∷
     lists (sheetBytes A) bytesA ∷
-    numbers (read bytesA .number) 0 ∷
-    lists (sheetBytes (counted (read bytesA .sheet))) bytesA ∷
-    numbers (read [] .number) 1 ∷
+    -- an accepted read has zero in every place past the counts, and a refused one everywhere
+    reads bytesA 0 (memory 0 A) ∷
+    reads [] 1 blank ∷
     -- a field's own range is tested before the next field is read
-    numbers (read (0x07 ∷ []) .number) 4 ∷
-    numbers (read (0x02 ∷ []) .number) 1 ∷
-    numbers (read (0x02 ∷ 0x02 ∷ 0x00 ∷ 0xF0 ∷ 0xA2 ∷ 0x04 ∷ 0x00 ∷ 0x00 ∷ []) .number) 6 ∷
-    numbers (read (bytesA ++ (0x00 ∷ [])) .number) 3 ∷
-    numbers (read (take 15 bytesA) .number) 1 ∷
-    numbers (read (set bytesA 15 0x03) .number) 8 ∷
+    reads (0x07 ∷ []) 4 blank ∷
+    reads (0x02 ∷ []) 1 blank ∷
+    reads (0x02 ∷ 0x0A ∷ []) 5 blank ∷
+    reads (0x02 ∷ 0x02 ∷ 0x01 ∷ []) 5 blank ∷
+    reads (0x02 ∷ 0x02 ∷ 0x00 ∷ 0x00 ∷ 0x00 ∷ []) 5 blank ∷
+    reads (0x02 ∷ 0x02 ∷ 0x00 ∷ 0xF0 ∷ 0xA2 ∷ 0x04 ∷ 0x00 ∷ 0x00 ∷ []) 6 blank ∷
+    reads (set bytesA 8 0x00) 7 blank ∷
+    reads (set bytesA 9 0x00) 8 blank ∷
+    reads (set bytesA 10 0x00) 8 blank ∷
+    reads (take 14 bytesA ++ (0x80 ∷ 0x02 ∷ [])) 8 blank ∷
+    reads (set bytesA 15 0x03) 8 blank ∷
+    reads (take 15 bytesA) 1 blank ∷
+    -- after the last field 3, then 9, then 10
+    reads (bytesA ++ (0x00 ∷ [])) 3 blank ∷
+    reads (sheetBytes (doubling 1 57)) 0 (memory 0 (doubling 1 57)) ∷
+    reads (sheetBytes (doubling 1 58)) 9 blank ∷
+    reads (sheetBytes (doubling 1 58) ++ (0x00 ∷ [])) 3 blank ∷
+    reads (sheetBytes (idle 5 upto6 1)) 10 blank ∷
+    -- places past the counts are no part of the sheet, and it is written alike
+    views (memory 7 A) A ∷
+    lists (sheetBytes (counted (memory 7 A))) bytesA ∷
     -- eleven: a buffer of fifteen; places past the length stay
     lists (write A (replicate 15 7) .buffer) (replicate 15 7) ∷
     numbers (write A (replicate 15 7) .number) 11 ∷
@@ -338,11 +384,11 @@ casesOfSteps =
     -- the slot and the energy of the state that a run starts from are not looked at
     steps (start A (state (0 ∷ 2 ∷ []) 7 99)) 0 (state (0 ∷ 2 ∷ []) 0 0) ∷
     -- 13: falling, not bearable, a number that would wrap, an unused position; a refused start gives zeros
-    steps (start A (state (2 ∷ 1 ∷ []) 0 0)) 13 zeroState ∷
-    steps (start A (state (0 ∷ 5 ∷ []) 0 0)) 13 zeroState ∷
-    steps (start A (state (0 ∷ 4294967295 ∷ []) 0 0)) 13 zeroState ∷
-    steps (start A (state (0 ∷ 0 ∷ 1 ∷ []) 0 0)) 13 zeroState ∷
-    steps (start crowded (state (0 ∷ 5 ∷ []) 0 0)) 5 zeroState ∷
+    steps (start A (state (2 ∷ 1 ∷ []) 0 0)) 13 (state [] 0 0) ∷
+    steps (start A (state (0 ∷ 5 ∷ []) 0 0)) 13 (state [] 0 0) ∷
+    steps (start A (state (0 ∷ 4294967295 ∷ []) 0 0)) 13 (state [] 0 0) ∷
+    steps (start A (state (0 ∷ 0 ∷ 1 ∷ []) 0 0)) 13 (state [] 0 0) ∷
+    steps (start crowded (state (0 ∷ 5 ∷ []) 0 0)) 5 (state [] 0 0) ∷
     -- 11 asks for the whole plan whatever the slot, before 13 and 14
     tells (speed A A0 (state (0 ∷ 5 ∷ []) 9 0)) 11 0 ∷
     tells (speed A (planA ++ (7 ∷ [])) (state (0 ∷ 2 ∷ []) 0 0)) 0 1 ∷
@@ -365,6 +411,8 @@ casesOfSteps =
     steps (advance A (set planA 4 0) (state (0 ∷ 4 ∷ []) 0 0) 1 1) 15 (state (0 ∷ 4 ∷ []) 0 0) ∷
     steps (advance A (set planA 4 3) (state (0 ∷ 4 ∷ []) 0 0) 1 1) 16 (state (0 ∷ 4 ∷ []) 0 0) ∷
     tells (speed A (set planA 5 0) (state (1 ∷ 1 ∷ []) 0 0)) 16 0 ∷
+    -- the energy added is that of the speed run at
+    steps (advance A planA (state (2 ∷ 2 ∷ []) 0 0) 0 1) 0 (state (0 ∷ 0 ∷ []) 1 4) ∷
     -- 15 asks for an entry with this size and this deadline together
     steps (advance A planA (state (0 ∷ 2 ∷ []) 0 0) 2 1) 15 (state (0 ∷ 2 ∷ []) 0 0) ∷
     []

@@ -21,6 +21,7 @@ pub record Counted : Type 0 where
   pub jobCount : ℕ
   pub jobs : List Job
 
+-- the places of a sheet in memory that count
 abbrev pub counted : Sheet → Counted
 counted s =
     record {

@@ -4,18 +4,18 @@ use Prim.Native.Nat.{ℕ, zero, suc, _+_, _*_, _-_, _^_, _<_}
 use mathlib.Core.Path.{_≡_}
 use mathlib.Core.Bool.{Bool, cond, _&&_}
 use mathlib.Core.List.{List, []}
-use mathlib.Core.Option.{Option, none, some}
+use mathlib.Core.Option.{Option, none, some, Option·getD}
 use lib.Dec.{leb, ltb, eqb}
 use lib.ListN.{length, getD, take, drop}
 use Rattle.process.specs.Ways.{Process, IsValue, IsCost, IsFirst}
 use Rattle.model.specs.Counted.{Counted, sizeAt, deadlineAt, weightAt, speedsOf, onSheet, energyOf, M}
-use Rattle.model.specs.Queue.{Queue, total, emptyQueue, bearable, run, arrive, bearableQueues}
+use Rattle.model.specs.Queue.{Queue, total, emptyQueue, bearable, oneSlot, bearableQueues}
 use Rattle.model.specs.Refusal.{sheetRefusal, N}
 use Rattle.model.specs.Tests.{check, _then_, everywhere}
 
 -- the queue after one slot at a speed and then the arrival of the entry at place i
 unfoldable pub nextQueue : Counted → Queue → ℕ → ℕ → Queue
-nextQueue s w speed i = arrive (run w speed) (sizeAt s i) (deadlineAt s i)
+nextQueue s w speed i = oneSlot w speed (sizeAt s i) (deadlineAt s i)
 
 -- states are queues, actions are the sheet's speeds, events are the places of its entries. A way may be in bearable queues alone; "each
 -- speed is at least w(1)"; "After slot T-1 remaining work costs nothing"
@@ -35,7 +35,7 @@ unfoldable pub admissible : Counted → Queue → ℕ → Bool
 admissible s w speed =
     onSheet s speed && leb (total w 1) speed && everywhere (λ i. bearable (M s) (nextQueue s w speed i)) (s .jobCount)
 
--- "The value of slot t and queue w is the least scaled energy of a good way over the last T-t slots, or none"
+-- "The value of slot t and queue w is the least scaled energy of a good way over the last T-t slots, or none"; t is at most T
 abbrev pub IsValueAt : Counted → ℕ → Queue → Option ℕ → Type 0
 IsValueAt s t w r = IsValue (processOf s) (s .jobCount) (weightAt s) (s .horizon - t) w r
 
@@ -90,10 +90,6 @@ abbrev pub number12 : Option ℕ → ℕ
 number12 none = 12
 number12 (some v) = 0
 
-abbrev pub orZero : Option ℕ → ℕ
-orZero none = 0
-orZero (some v) = v
-
 -- what the planner answers
 pub record PlanAnswer : Type 0 where
   pub number : ℕ
@@ -112,7 +108,7 @@ pub record FromEmpty (s : Counted) (a : PlanAnswer) : Type 0 where
   pub r : Option ℕ
   pub is-value : IsValueAt s 0 (emptyQueue (s .bound)) r
   pub number : a .number ≡ number12 r
-  pub least : a .least ≡ orZero r
+  pub least : a .least ≡ Option·getD r 0
 
 -- the lent places after a plan that is not refused. `read` is how a value stands in the values
 pub record Filled (read : List ℕ → ℕ → Option ℕ) (s : Counted) (values₀ plan₀ values plan : List ℕ) (a : PlanAnswer) : Type 0 where

@@ -1,5 +1,5 @@
 -- Document 01, "Queues": what a queue is, when it is bearable, what one slot does to it, and how the bearable queues are numbered.
-use Prim.Native.Nat.{ℕ, zero, suc, _+_, _*_, _-_, min}
+use Prim.Native.Nat.{ℕ, zero, suc, _+_, _*_, _-_, min, _≤_, _<_}
 use mathlib.Core.Bool.{Bool, cond, _&&_}
 use mathlib.Core.List.{List, [], _∷_, _++_, map}
 use lib.Dec.{leb, eqb}
@@ -23,6 +23,14 @@ totals D f = listed (λ i. f (suc i)) D
 -- nothing waits
 abbrev pub emptyQueue : ℕ → Queue
 emptyQueue D = totals D (λ u. 0)
+
+-- "never falling"
+abbrev pub NeverFalls : Queue → Type 0
+NeverFalls w = (u : ℕ) → u < length w → total w u ≤ total w (suc u)
+
+-- at no u is the total of v above that of w
+abbrev pub NoLonger : Queue → Queue → Type 0
+NoLonger v w = (u : ℕ) → total v u ≤ total w u
 
 -- "It is bearable (finishable) when w(u) is at most u times M for each u", and a queue never falls
 unfoldable pub bearable : ℕ → Queue → Bool
@@ -53,6 +61,10 @@ run w s = totals (length w) (λ u. total w (min (suc u) (length w)) - s)
 -- "then an arrival of size c and deadline d: .. then c is added to w'(u) for every u from d to D"
 unfoldable pub arrive : Queue → ℕ → ℕ → Queue
 arrive w c d = totals (length w) (λ u. total w u + cond (leb d u) c 0)
+
+-- "One slot at speed s, then an arrival of size c and deadline d"
+abbrev pub oneSlot : Queue → ℕ → ℕ → ℕ → Queue
+oneSlot w s c d = arrive (run w s) c d
 
 -- "Bearable queues are numbered from 0 in dictionary order of w(1), w(2), and so on": the list of them all. It is built position by
 -- position. After a total w whose slack is g, the next total is each of w, w + 1, .., w + g + M in turn, and its slack falls from g + M

@@ -91,9 +91,9 @@ readJobs D (suc left) = do
 abbrev pub ended : Reader (Unit {0})
 ended bytes at = test (leb (length bytes) at) 3 bytes at
 
--- the fields in order, and then 3, 9, 10
-unfoldable pub readCounted : Reader Counted
-readCounted = do
+-- the fields in order, and then 3, 9, 10; `queues` is N of a sheet
+unfoldable pub readCounted : (Counted → ℕ) → Reader Counted
+readCounted queues = do
   D ← field
   test (boundRight D) 4
   speedCount ← field
@@ -109,10 +109,10 @@ readCounted = do
   where
     judged : Counted → Reader Counted
     judged s = do
-      refuse (refusal9 (s .horizon) valueLimit s then refusal10 (N s))
+      refuse (refusal9 (s .horizon) valueLimit s then refusal10 (queues s))
       done s
 
--- the number that reading bytes answers, and the sheet: "A refused read gives an all-zero sheet"
+-- what a read answers, by the number and the sheet: "A refused read gives an all-zero sheet"
 
 pub record ReadSheet : Type 0 where
   pub number : ℕ
@@ -123,4 +123,4 @@ readAnswer (value s next) = record { number = 0; sheet = inMemory s }
 readAnswer (refused number) = record { number = number; sheet = zeroSheet }
 
 unfoldable pub read : List ℕ → ReadSheet
-read bytes = readAnswer (readCounted bytes 0)
+read bytes = readAnswer (readCounted N bytes 0)

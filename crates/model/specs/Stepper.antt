@@ -7,7 +7,7 @@ use lib.Dec.{leb, eqb}
 use lib.ListN.{length, getD, replicate}
 use Rattle.model.specs.Counted.{Counted, sizeAt, deadlineAt, onSheet, energyOf, greatestEnergy, M}
 use Rattle.model.specs.Plan.{placeAt, planNeeded}
-use Rattle.model.specs.Queue.{Queue, total, positions, queueIn, placesOf, bearable, bearableIn, run, arrive, numberOf}
+use Rattle.model.specs.Queue.{Queue, total, positions, queueIn, placesOf, bearable, bearableIn, oneSlot, numberOf}
 use Rattle.model.specs.Refusal.{sheetRefusal}
 use Rattle.model.specs.Tests.{check, _then_, anywhere}
 
@@ -84,7 +84,7 @@ isEntry s size deadline = anywhere (λ i. eqb (sizeAt s i) size && eqb (deadline
 unfoldable pub moved : Counted → State → ℕ → ℕ → ℕ → State
 moved s x byte size deadline =
     record {
-      queue = placesOf (arrive (run (queueOf s x) byte) size deadline);
+      queue = placesOf (oneSlot (queueOf s x) byte size deadline);
       slot = suc (x .slot);
       energy = x .energy + energyOf s byte;
     }
