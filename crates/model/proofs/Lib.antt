@@ -5,4 +5,5 @@ pub mod Queues
 pub mod Refusal
 pub mod Admissible
 pub mod Longer
+pub mod Leaves
 pub mod Cases
