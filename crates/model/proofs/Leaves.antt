@@ -12,7 +12,7 @@ use borrow.Author.Tests.{eqb-true, ltb-true, ltb-false}
 use lib.Dec.{eqb, ltb}
 use lib.ListN.{length, getD, drop}
 use lib.Seq.{ext-getD, getD-drop}
-use Rattle.process.proofs.Value.{value-unique, first-unique}
+use Rattle.process.proofs.Definite.{value-unique, first-unique}
 use Rattle.model.specs.Counted.{Counted, weightAt}
 use Rattle.model.specs.Plan.{processOf, IsValueAt, IsPlanByte, noValue, decoded, valueIn, queueAt, placeAt, valuesNeeded, planNeeded, planRefusal, PlanAnswer, Decided, FromEmpty, Filled, LeavesBy, Leaves, number12}
 use Rattle.model.specs.Queue.{Queue, emptyQueue}

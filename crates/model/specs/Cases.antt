@@ -256,6 +256,7 @@ casesOfPlans =
     numbers (planRefusal A 36 23) 11 ∷
     numbers (planRefusal crowded 0 0) 5 ∷
     -- the row of a slot, and the empty part
+    lists (row A planA 0) A0 ∷
     lists (row A planA 1) A1 ∷
     lists (row A planA 2) [] ∷
     lists (row A A0 0) [] ∷
@@ -373,6 +374,7 @@ casesOfBytes =
     lists (write A (replicate 15 7) .buffer) (replicate 15 7) ∷
     numbers (write A (replicate 15 7) .number) 11 ∷
     numbers (write A (replicate 15 7) .written) 0 ∷
+    numbers (write A (replicate 16 7) .number) 0 ∷
     lists (write A (replicate 17 7) .buffer) (bytesA ++ (7 ∷ [])) ∷
     numbers (write A (replicate 17 7) .number) 0 ∷
     numbers (write A (replicate 17 7) .written) 16 ∷

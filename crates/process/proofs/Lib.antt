@@ -1,3 +1,5 @@
+pub mod Computed
+pub mod Definite
 pub mod Sums
 pub mod Value
 pub mod Eased

@@ -17,6 +17,7 @@ use Rattle.process.specs.Ways.{Process, Way, later, Among, Along, Good, 
 use Rattle.process.specs.Recursion.{plus, times, sumOrNone, only, Choice, nothing, chosen, choose, cheaper, better}
 use Rattle.process.specs.Recursion.{best, worth, actionOf, priced, choice, value, plan, ruled}
 use Rattle.process.specs.Pairing.{Rising}
+use Rattle.process.proofs.Definite.{value-unique}
 use Rattle.process.proofs.Sums.{sum-same, sum-add, sum-times, over-add, over-times, weights-total}
 
 -- a number that is there and at most u
@@ -295,17 +296,9 @@ module _ {S : Type 0} (P : Process S) (n : ℕ) (w : ℕ → ℕ) where
             least = λ σ g. rw e at (lower h k x σ g);
           }
 
-  -- there is one value at most
-  pub value-unique : (k : ℕ) (x : S) (r r′ : Option ℕ) → IsValue P n w k x r → IsValue P n w k x r′ → r ≡ r′
-  value-unique k x none none a b = refl
-  value-unique k x none (some v) a b = absurd (a (b .way) (b .holds))
-  value-unique k x (some u) none a b = absurd (b (a .way) (a .holds))
-  value-unique k x (some u) (some v) a b =
-      ap {B = Option ℕ} some (omega (arith, a .least (b .way) (b .holds), b .least (a .way) (a .holds)))
-
   -- the value is none exactly where no way is good
   pub never : 0 < n → (k : ℕ) (x : S) → (value P n w k x ≡ none) ↔ ((σ : Way) → Good P n k x σ → ⊥)
-  never h k x = (λ e. rw e at (value-is h k x), value-unique k x (value P n w k x) none (value-is h k x))
+  never h k x = (λ e. rw e at (value-is h k x), value-unique P n w k x (value P n w k x) none (value-is h k x))
 
   -- an action's price is the least scaled energy of a good way that begins with it
   pub cost-is : 0 < n → (k : ℕ) (x : S) (a v : ℕ) → T (P .alive x) → Among (P .actions) a →
@@ -344,11 +337,3 @@ module _ {S : Type 0} (P : Process S) (n : ℕ) (w : ℕ → ℕ) where
     where
       later-more : (i m : ℕ) → m < length (P .actions) → ¬ (m < i) → getD (P .actions) i 0 ≤ getD (P .actions) m 0
       later-more i m b d = ⊎-elim (λ q. rw q (le-refl _)) (λ q. le-of-lt (rising i m q b)) (eq-or-lt-of-le (omega arith))
-
-  -- there is one smallest first action at most
-  pub first-unique : {k : ℕ} {x : S} {a b : ℕ} → IsFirst P n w k x a → IsFirst P n w k x b → a ≡ b
-  first-unique f g = omega (arith, f .smallest (g .way) (g .least), f .begins, g .smallest (f .way) (f .least), g .begins)
-
-  -- where there is a smallest first action there is a value
-  pub first-needs-value : {k : ℕ} {x : S} {a : ℕ} → IsFirst P n w k x a → IsValue P n w k x none → ⊥
-  first-needs-value f g = g (f .way) (f .least .good)
