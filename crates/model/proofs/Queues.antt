@@ -1,7 +1,7 @@
 -- Laws of queues, of the list of all bearable queues and of the number of a queue (specs/Queue.antt): a total at each u after a slot and an
 -- arrival, what bearable says position by position, how many queues the list has, that they are the bearable ones, each once and in
 -- dictionary order, and so that a queue's number is its place. Elsewhere these laws are used, and not the definitions' text.
-use Prim.Native.Nat.{ℕ, zero, suc, _+_, _*_, _-_, min, _≤_, _<_}
+use Prim.Native.Nat.{ℕ, zero, suc, _+_, _*_, _-_, min, _≤_, _<_, zero-le}
 use mathlib.Core.Path.{_≡_, refl, sym, ap, _∙_, subst}
 use mathlib.Core.Bool.{Bool, true, false, cond, _&&_}
 use mathlib.Core.List.{List, [], _∷_, _++_, map, List·Memᴰ, List·Memᴰ·head, List·Memᴰ·not-nil, List·Memᴰ·cases-cons, Memᴰ·append-left, Memᴰ·append-right, Memᴰ·map}
@@ -64,6 +64,11 @@ bearable-at M w t i h =
     let both = everywhere-at (λ j. leb (total w j) (total w (suc j)) && leb (total w (suc j)) (suc j * M)) (length w) t i h in
     (leb→le (total w i) (total w (suc i)) (and-left a b both), leb→le (total w (suc i)) (suc i * M) (and-right a b both))
 
+-- its total at u is at most u * M, for u from 0 on
+pub bearable-upto : (M : ℕ) (w : Queue) → T (bearable M w) → (u : ℕ) → u ≤ length w → total w u ≤ u * M
+bearable-upto M w t zero h = zero-le
+bearable-upto M w t (suc i) h = bearable-at M w t i h .1
+
 -- a queue that falls nowhere and is nowhere above u * M is bearable
 pub bearable-all : (M : ℕ) (w : Queue) → ((i : ℕ) → i < length w → (total w i ≤ total w (suc i)) × (total w (suc i) ≤ suc i * M)) →
     T (bearable M w)
@@ -119,7 +124,7 @@ all-at P (v ∷ l) a (suc i) h = all-at P l (a .1) i (le-of-suc-le-suc h)
 -- the listed queues are the bearable ones
 
 -- the totals q go on, bearably, from a total w at position u
-abbrev GoesOn : ℕ → ℕ → ℕ → Queue → Type 0
+abbrev pub GoesOn : ℕ → ℕ → ℕ → Queue → Type 0
 GoesOn M u w q = (i : ℕ) → i < length q → (getD (w ∷ q) i 0 ≤ getD q i 0) × (getD q i 0 ≤ suc (u + i) * M)
 
 -- a total that may follow w, and totals that go on from it
@@ -181,7 +186,7 @@ each-in f x b q high h y (suc c) low e =
     (λ l. Memᴰ·append-right (map (λ rest. y ∷ rest) (f y c)) (each-in f x b q high h (suc y) c l (omega arith))) (eq-or-lt-of-le low)
 
 -- every list of totals that goes on from w bearably is a continuation after w
-continuations-in : (M u w g : ℕ) (q : Queue) → w + g ≡ u * M → GoesOn M u w q → List·Memᴰ q (continuations M (length q) w g)
+pub continuations-in : (M u w g : ℕ) (q : Queue) → w + g ≡ u * M → GoesOn M u w q → List·Memᴰ q (continuations M (length q) w g)
 unfolding continuations
 continuations-in M u w g [] e s = List·Memᴰ·head refl
 continuations-in M u w g (x ∷ q) e s =
@@ -190,7 +195,7 @@ continuations-in M u w g (x ∷ q) e s =
     (λ k d. continuations-in M (suc u) x k q d (went-on M u w x q s)) w (suc (g + M)) (first .0) (omega arith)
 
 -- a queue of a list stands at its place there
-place-found : (w : Queue) (l : List Queue) → List·Memᴰ w l → (placeIn l w < length l) × (getD l (placeIn l w) [] ≡ w)
+pub place-found : (w : Queue) (l : List Queue) → List·Memᴰ w l → (placeIn l w < length l) × (getD l (placeIn l w) [] ≡ w)
 unfolding placeIn
 place-found w [] m = absurd (List·Memᴰ·not-nil m)
 place-found w (v ∷ l) m = go (place-found w l) (same v w) refl (List·Memᴰ·cases-cons m)

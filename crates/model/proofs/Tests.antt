@@ -1,9 +1,10 @@
 -- Laws of the tests and of the small loops over places (specs/Tests.antt). Elsewhere these laws are used, and not the definitions' text.
-use Prim.Native.Nat.{ℕ, zero, suc, max, _≤_, _<_}
+use Prim.Native.Nat.{ℕ, zero, suc, max, _+_, _≤_, _<_}
 use mathlib.Core.Path.{_≡_, refl, sym, ap, subst}
 use mathlib.Core.Bool.{Bool, true, false, cond, _&&_, _||_}
 use mathlib.Core.Logic.{⊎-elim, _⊎_, inl, inr}
 use native.Mathlib.Nat.{le-refl, le-trans, le-max-left, le-max-right, max-le, not-suc-le-zero, eq-or-lt-of-le, le-of-suc-le-suc, suc-ne-zero, lt-irrefl, not-le-of-lt}
+use native.Mathlib.Numerals.{add-one}
 use native.Mathlib.Omega.{arith}
 use borrow.Author.Tests.{ltb-true, ltb-false}
 use lib.Dec.{T, ltb}
@@ -23,6 +24,13 @@ and-right false b t = absurd t
 pub and-both : (a b : Bool) → T a → T b → T (a && b)
 and-both true b t u = u
 and-both false b t u = t
+
+-- two tests are one where each tells the other
+pub same-test : (a b : Bool) → (T a → T b) → (T b → T a) → a ≡ b
+same-test true true there back = refl
+same-test true false there back = absurd (there tt)
+same-test false true there back = absurd (back tt)
+same-test false false there back = refl
 
 or-cases : (a b : Bool) → T (a || b) → T a ⊎ T b
 or-cases true b t = inl tt
@@ -67,6 +75,24 @@ unfolding everywhere
 everywhere-all test zero all = tt
 everywhere-all test (suc n) all =
     and-both (everywhere test n) (test n) (everywhere-all test n (λ i h. all i (omega arith))) (all n (le-refl (suc n)))
+
+-- a test that fails at one place does not hold everywhere
+pub everywhere-fails : (test : ℕ → Bool) (n i : ℕ) → i < n → test i ≡ false → everywhere test n ≡ false
+everywhere-fails test n i h e =
+    same-test (everywhere test n) false (λ t. subst T e (everywhere-at test n t i h)) (λ f. absurd f)
+
+-- a test that holds everywhere below i, and at i, holds everywhere below i + 1
+pub everywhere-more : (test : ℕ → Bool) (i : ℕ) → everywhere test i ≡ true → test i ≡ true → everywhere test (i + 1) ≡ true
+unfolding everywhere
+everywhere-more test i below here = rw (add-one, below) here
+
+-- tests that agree at each place agree everywhere
+pub everywhere-same : (f g : ℕ → Bool) (n : ℕ) → ((i : ℕ) → i < n → f i ≡ g i) → everywhere f n ≡ everywhere g n
+unfolding everywhere
+everywhere-same f g zero same = refl
+everywhere-same f g (suc n) same =
+    let below : everywhere f n ≡ everywhere g n = everywhere-same f g n (λ i h. same i (omega arith)) in
+    rw (below, same n (le-refl (suc n)))
 
 pub anywhere-at : (test : ℕ → Bool) (n : ℕ) → T (anywhere test n) → (i : ℕ) × (i < n) × T (test i)
 unfolding anywhere

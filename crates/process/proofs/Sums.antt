@@ -5,8 +5,9 @@ use mathlib.Core.Path.{_≡_, refl, sym, ap, _∙_, fun-ext}
 use mathlib.Core.Bool.{Bool, true, false, _&&_}
 use mathlib.Core.List.{List, [], _∷_}
 use mathlib.Core.Logic.{⊎-elim}
-use native.Mathlib.Nat.{add-zero, zero-add, mul-zero, mul-add, mul-comm, one-mul, zero-mul}
+use native.Mathlib.Nat.{add-zero, zero-add, mul-zero, mul-add, mul-comm, one-mul, zero-mul, suc-mul}
 use native.Mathlib.Nat.{pow-zero, pow-suc, add-le-add, eq-or-lt-of-le, not-suc-le-zero, le-of-suc-le-suc}
+use native.Mathlib.Numerals.{add-one}
 use native.Mathlib.Omega.{arith}
 use lib.Dec.{T, eqb}
 use borrow.Author.Tests.{eq-eqb, ne-eqb, eqb-true, eqb-false}
@@ -24,6 +25,28 @@ pub sum-le : {f g : ℕ → ℕ} (n : ℕ) → ((i : ℕ) → i < n → f i ≤ 
 unfolding sum
 sum-le zero h = zero-le
 sum-le (suc n) h = add-le-add (sum-le n (λ i l. h i (omega arith))) (h n (omega arith))
+
+-- the sum of n terms that are at most b
+pub sum-upto : {f : ℕ → ℕ} (n b : ℕ) → ((i : ℕ) → i < n → f i ≤ b) → sum f n ≤ n * b
+unfolding sum
+sum-upto zero b h = zero-le
+sum-upto (suc n) b h = omega (arith, sum-upto n b (λ i l. h i (omega arith)), h n (omega arith), suc-mul n b)
+
+-- more terms have no smaller sum
+pub sum-more : (f : ℕ → ℕ) (m n : ℕ) → m ≤ n → sum f m ≤ sum f n
+unfolding sum
+sum-more f zero n h = zero-le
+sum-more f (suc m) zero h = absurd (not-suc-le-zero h)
+sum-more f (suc m) (suc n) h = ⊎-elim (λ e. omega (arith, ap (sum f) e, ap f e)) (λ l. omega (arith, sum-more f (suc m) n l)) (eq-or-lt-of-le (le-of-suc-le-suc h))
+
+-- a loop that adds a term each turn: one term more
+pub sum-next : (f : ℕ → ℕ) {s r : ℕ} (j : ℕ) → s ≡ sum f j → r ≡ f j → s + r ≡ sum f (j + 1)
+unfolding sum
+sum-next f j e d = rw add-one (cc)
+
+-- .. and all of them
+pub sum-whole : (f : ℕ → ℕ) {s : ℕ} (j n : ℕ) → s ≡ sum f j → j ≤ n → n ≤ j → s ≡ sum f n
+sum-whole f j n e h k = let whole : j ≡ n = omega arith in e ∙ ap (sum f) whole
 
 -- the sum of sums is the sum of the two
 pub sum-add : (f g : ℕ → ℕ) (n : ℕ) → sum (λ i. f i + g i) n ≡ sum f n + sum g n

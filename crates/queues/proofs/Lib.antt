@@ -1,0 +1,6 @@
+pub mod Bounds
+pub mod Table
+pub mod Places
+pub mod Slots
+pub mod Numbering
+pub mod Finding

@@ -1,0 +1,115 @@
+// The number of a bearable queue, which is its place in dictionary order, by sums of counts; and the queue of a number.
+use crate::counts::count;
+use crate::slot;
+ghost use mathlib.Core.Path.{_≡_};
+ghost use Prim.Native.Nat.{ℕ, suc, _+_, _<_};
+ghost use mathlib.Core.List.{[]};
+ghost use lib.ListN.{getD};
+ghost use Rattle.process.specs.Sums.{sum};
+ghost use Rattle.model.specs.Queue.{queueIn, placesOf, bearableQueues, queueCount, numberOf, continuationCount};
+ghost use Rattle.queues.specs.Counts.{InTable};
+ghost use Rattle.queues.specs.Numbers.{Ranges, Numbered, earlierAt, Leads, Follows};
+
+// The sum of the counts of n slacks, of which this is the least.
+fn sum_of_counts(largest: u32, left: usize, slack: u32, n: u32) -> usize
+    requires { ⌜ ((j : ℕ) → j < n → InTable largest left (slack + j)) ⌝ }
+    ensures { λ r. ⌜ r ≡ sum (λ j. continuationCount largest left (slack + j)) n ⌝ }
+{
+    let mut all = 0;
+    let mut j = 0;
+    while j < n {
+        all += count(largest, left, slack + j);
+        j += 1;
+    }
+    all
+}
+
+// N, the number of bearable queues.
+pub fn queue_count(largest: u32, bound: usize) -> usize
+    requires { ⌜ Ranges largest bound ⌝ }
+    ensures { λ r. ⌜ r ≡ queueCount largest bound ⌝ }
+{
+    if bound == 0 {
+        return 1;
+    }
+    sum_of_counts(largest, bound - 1, 0, largest + 1)
+}
+
+// How many bearable queues agree with this one up to w(u) and have less than it at w(u+1): their slacks there are those above its own.
+fn earlier(largest: u32, bound: usize, queue: [u32; 6], u: usize) -> usize
+    requires { ⌜ (u < bound) × Numbered largest bound queue ⌝ }
+    ensures { λ r. ⌜ r ≡ earlierAt largest (queueIn bound queue) u ⌝ }
+{
+    let here = queue[u];
+    let slack = (u as u32 + 1) * largest - here;
+    sum_of_counts(
+        largest,
+        bound - 1 - u,
+        slack + 1,
+        here - slot::total(queue, u),
+    )
+}
+
+// The number of a bearable queue.
+pub fn number(largest: u32, bound: usize, queue: [u32; 6]) -> usize
+    requires { ⌜ Numbered largest bound queue ⌝ }
+    ensures { λ r. ⌜ r ≡ numberOf largest (queueIn bound queue) ⌝ }
+{
+    let mut all = 0;
+    let mut u = 0;
+    while u < bound {
+        all += earlier(largest, bound, queue, u);
+        u += 1;
+    }
+    all
+}
+
+// How far a queue is found: its last total so far, the slack there, and its place in the list of all that may follow.
+struct Found {
+    total: u32,
+    slack: u32,
+    place: usize,
+}
+
+// The next total: of those that may come next the last whose queues do not all stand before the place.
+fn next_total(largest: u32, left: usize, found: Found) -> Found
+    requires { ⌜ Leads largest (suc left) (found .total) (found .slack) (found .place) ⌝ }
+    ensures { λ r. ⌜ Follows largest left (found .total) (found .slack) (found .place) (r .total) (r .slack) (r .place) ⌝ }
+{
+    let mut total = found.total;
+    let mut slack = found.slack + largest;
+    let mut place = found.place;
+    loop {
+        let here = count(largest, left, slack);
+        if place < here {
+            return Found {
+                total,
+                slack,
+                place,
+            };
+        }
+        place -= here;
+        total += 1;
+        slack -= 1;
+    }
+}
+
+// The queue of a number.
+pub fn queue_at(largest: u32, bound: usize, number: usize) -> [u32; 6]
+    requires { ⌜ Ranges largest bound × (number < queueCount largest bound) ⌝ }
+    ensures { λ r. ⌜ r ≡ placesOf (getD (bearableQueues largest bound) number []) ⌝ }
+{
+    let mut queue = [0; 6];
+    let mut found = Found {
+        total: 0,
+        slack: 0,
+        place: number,
+    };
+    let mut u = 0;
+    while u < bound {
+        found = next_total(largest, bound - 1 - u, found);
+        queue[u] = found.total;
+        u += 1;
+    }
+    queue
+}
