@@ -2,18 +2,19 @@
 -- arrival, what bearable says position by position, how many queues the list has, that they are the bearable ones, each once and in
 -- dictionary order, and so that a queue's number is its place. Elsewhere these laws are used, and not the definitions' text.
 use Prim.Native.Nat.{ℕ, zero, suc, _+_, _*_, _-_, min, _≤_, _<_, zero-le}
-use mathlib.Core.Path.{_≡_, refl, sym, ap, _∙_, subst}
+use mathlib.Core.Path.{_≡_, refl, sym, ap, _∙_, subst, subst₂}
 use mathlib.Core.Bool.{Bool, true, false, cond, _&&_}
 use mathlib.Core.List.{List, [], _∷_, _++_, map, List·Memᴰ, List·Memᴰ·head, List·Memᴰ·not-nil, List·Memᴰ·cases-cons, Memᴰ·append-left, Memᴰ·append-right, Memᴰ·map}
 use mathlib.Core.Logic.{⊎-elim, _⊎_, inl, inr}
 use native.Mathlib.Nat.{zero-add, le-of-suc-le-suc, le-refl, not-suc-le-zero, eq-or-lt-of-le, lt-irrefl, zero-lt-suc}
 use native.Mathlib.Omega.{arith}
-use lib.Dec.{T, leb, leb→le, le→leb}
+use borrow.Author.Tests.{ltb-true, ltb-false}
+use lib.Dec.{T, leb, ltb, eqb, leb→le, le→leb, eqb→eq}
 use lib.ListN.{length, getD, length-append, length-map, List·getD-eq-default}
 use Rattle.process.specs.Sums.{sum, same}
 use Rattle.process.proofs.Sums.{same-refl, same-true}
 use Rattle.model.specs.Tests.{listed}
-use Rattle.model.specs.Queue.{Queue, total, totals, emptyQueue, bearable, run, arrive, eachTotal, continuations, bearableQueues, queueCount, placeIn, numberOf, continuationCount}
+use Rattle.model.specs.Queue.{Queue, total, totals, emptyQueue, positions, queueIn, bearable, bearableIn, run, arrive, eachTotal, continuations, bearableQueues, queueCount, placeIn, numberOf, continuationCount}
 use Rattle.model.proofs.Tests.{check-passes, and-left, and-right, and-both, everywhere-at, everywhere-all, length-listed, getD-listed}
 
 -- a queue by its totals
@@ -77,6 +78,21 @@ bearable-all M w all =
     everywhere-all (λ j. leb (total w j) (total w (suc j)) && leb (total w (suc j)) (suc j * M)) (length w)
     (λ i h. and-both (leb (total w i) (total w (suc i))) (leb (total w (suc i)) (suc i * M))
     (le→leb (total w i) (total w (suc i)) (all i h .0)) (le→leb (total w (suc i)) (suc i * M) (all i h .1)))
+
+-- six places that hold a bearable queue: it stands in the first D
+pub held-bearable : (M D : ℕ) (places : List ℕ) → T (bearableIn M D places) → T (bearable M (queueIn D places))
+unfolding bearableIn
+held-bearable M D places t = and-left (bearable M (queueIn D places)) _ t
+
+-- .. and the others are zero
+pub held-zero : (M D : ℕ) (places : List ℕ) → T (bearableIn M D places) → (i : ℕ) → D ≤ i → i < positions → getD places i 0 ≡ 0
+unfolding bearableIn
+held-zero M D places t i h l =
+    let zeros = and-right (bearable M (queueIn D places)) _ t in
+    let same : D + (i - D) ≡ i = omega arith in
+    eqb→eq (getD places i 0) 0
+    (subst (λ (k : ℕ). T (eqb (getD places k 0) 0)) same
+    (everywhere-at (λ j. eqb (getD places (D + j) 0) 0) (positions - D) zeros (i - D) (omega arith)))
 
 -- how many there are
 
@@ -234,6 +250,15 @@ before-irreflexive [] b = b
 before-irreflexive (x ∷ w) (inl l) = lt-irrefl x l
 before-irreflexive (x ∷ w) (inr b) = before-irreflexive w (b .1)
 
+-- of two queues one at most is before the other
+pub before-asymmetric : (v w : Queue) → before v w → before w v → ⊥
+before-asymmetric [] w b c = b
+before-asymmetric (x ∷ v) [] b c = b
+before-asymmetric (x ∷ v) (y ∷ w) (inl l) (inl k) = omega arith
+before-asymmetric (x ∷ v) (y ∷ w) (inl l) (inr c) = omega arith
+before-asymmetric (x ∷ v) (y ∷ w) (inr b) (inl k) = omega arith
+before-asymmetric (x ∷ v) (y ∷ w) (inr b) (inr c) = before-asymmetric v w (b .1) (c .1)
+
 -- each queue of the list is before all that follow it
 abbrev Rises : List Queue → Type 0
 Rises [] = Unit {0}
@@ -307,6 +332,28 @@ unfolding numberOf queueCount bearableQueues
 number-of-place M D i h =
     ap (λ (n : ℕ). placeIn (continuations M n 0 0) (getD (continuations M D 0 0) i [])) (listed-bearable M D i h .0) ∙
     place-at (continuations M D 0 0) (continuations-rise M D 0 0) i h
+
+-- numbers rise in dictionary order
+pub number-rises : (M : ℕ) (v w : Queue) → T (bearable M v) → T (bearable M w) → length v ≡ length w → before v w → numberOf M v < numberOf M w
+number-rises M v w a b e l = go (ltb (numberOf M v) (numberOf M w)) refl
+  where
+    at-v : getD (bearableQueues M (length w)) (numberOf M v) [] ≡ v
+    at-v = ap (λ (D : ℕ). getD (bearableQueues M D) (numberOf M v) []) (sym e) ∙ number-place M v a
+
+    go : (t : Bool) → ltb (numberOf M v) (numberOf M w) ≡ t → numberOf M v < numberOf M w
+    go true h = ltb-true (numberOf M v) (numberOf M w) h
+    go false h = ⊎-elim same later (eq-or-lt-of-le (ltb-false (numberOf M v) (numberOf M w) h))
+      where
+        same : numberOf M w ≡ numberOf M v → numberOf M v < numberOf M w
+        same d =
+            let one : w ≡ v = sym (number-place M w b) ∙ ap (λ (i : ℕ). getD (bearableQueues M (length w)) i []) d ∙ at-v in
+            absurd (before-irreflexive v (subst (λ (q : Queue). before v q) one l))
+
+        later : numberOf M w < numberOf M v → numberOf M v < numberOf M w
+        later k =
+            let below = subst (λ (D : ℕ). numberOf M v < queueCount M D) e (number-below M v a) in
+            let back = list-rises M (length w) (numberOf M w) (numberOf M v) k below in
+            absurd (before-asymmetric v w l (subst₂ before (number-place M w b) at-v back))
 
 -- the empty queue
 

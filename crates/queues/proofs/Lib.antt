@@ -4,3 +4,4 @@ pub mod Places
 pub mod Slots
 pub mod Numbering
 pub mod Finding
+pub mod RoundTrip

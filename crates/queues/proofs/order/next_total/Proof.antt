@@ -2,10 +2,10 @@
 use Prim.Native.Nat.{_+_}
 use native.Mathlib.Omega.{arith}
 use Rattle.queues.proofs.Finding.{Searching, search-begins, search-needed, search-goes-on, search-ends}
-use Rattle.queues.proofs.number.next_total.Statement.{statement}
-use Rattle.queues.proofs.number.next_total.Tie as tie
-use Rattle.queues.proofs.number.next_total.Reads as reads
-use Rattle.queues.proofs.number.next_total.Lts as lts
+use Rattle.queues.proofs.order.next_total.Statement.{statement}
+use Rattle.queues.proofs.order.next_total.Tie as tie
+use Rattle.queues.proofs.order.next_total.Reads as reads
+use Rattle.queues.proofs.order.next_total.Lts as lts
 use Rattle.queues.proofs.counts.count.Reads as count-reads
 
 abbrev Inv-loop : tie.InvT-loop

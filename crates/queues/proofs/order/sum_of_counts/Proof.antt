@@ -6,10 +6,10 @@ use Rattle.process.specs.Sums.{sum}
 use Rattle.process.proofs.Sums.{sum-next, sum-whole}
 use Rattle.model.specs.Queue.{continuationCount}
 use Rattle.queues.proofs.Bounds.{slack-small, count-small, counts-small}
-use Rattle.queues.proofs.number.sum_of_counts.Statement.{statement}
-use Rattle.queues.proofs.number.sum_of_counts.Tie as tie
-use Rattle.queues.proofs.number.sum_of_counts.Reads as reads
-use Rattle.queues.proofs.number.sum_of_counts.Lts as lts
+use Rattle.queues.proofs.order.sum_of_counts.Statement.{statement}
+use Rattle.queues.proofs.order.sum_of_counts.Tie as tie
+use Rattle.queues.proofs.order.sum_of_counts.Reads as reads
+use Rattle.queues.proofs.order.sum_of_counts.Lts as lts
 use Rattle.queues.proofs.counts.count.Reads as count-reads
 
 abbrev Inv-loop : tie.InvT-loop

@@ -2,11 +2,11 @@
 use mathlib.Core.Path.{_∙_}
 use Rattle.queues.proofs.Numbering.{queues-none, queues-needed, queues-counted}
 use borrow.Author.Needs.{needs}
-use Rattle.queues.proofs.number.queue_count.Statement.{statement}
-use Rattle.queues.proofs.number.queue_count.Tie as tie
-use Rattle.queues.proofs.number.queue_count.Reads as reads
-use Rattle.queues.proofs.number.queue_count.Lts as lts
-use Rattle.queues.proofs.number.sum_of_counts.Reads as sum-of-counts-reads
+use Rattle.queues.proofs.order.queue_count.Statement.{statement}
+use Rattle.queues.proofs.order.queue_count.Tie as tie
+use Rattle.queues.proofs.order.queue_count.Reads as reads
+use Rattle.queues.proofs.order.queue_count.Lts as lts
+use Rattle.queues.proofs.order.sum_of_counts.Reads as sum-of-counts-reads
 
 returns : tie.Need-returns
 returns c = queues-none (c .before .args .largest) (c .before .args .bound) (c .if1 .taken)

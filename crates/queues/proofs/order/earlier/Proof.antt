@@ -6,11 +6,11 @@ use Rattle.queues.proofs.Numbering.{position-safe, position-needed, pos
 use borrow.Author.Needs.{needs}
 use lib.ListN.{getD}
 use mathlib.Core.Path.{_∙_}
-use Rattle.queues.proofs.number.earlier.Statement.{statement}
-use Rattle.queues.proofs.number.earlier.Tie as tie
-use Rattle.queues.proofs.number.earlier.Reads as reads
-use Rattle.queues.proofs.number.earlier.Lts as lts
-use Rattle.queues.proofs.number.sum_of_counts.Reads as sum-of-counts-reads
+use Rattle.queues.proofs.order.earlier.Statement.{statement}
+use Rattle.queues.proofs.order.earlier.Tie as tie
+use Rattle.queues.proofs.order.earlier.Reads as reads
+use Rattle.queues.proofs.order.earlier.Lts as lts
+use Rattle.queues.proofs.order.sum_of_counts.Reads as sum-of-counts-reads
 use Rattle.queues.proofs.slot.total.Reads as total-reads
 
 -- what is known of the position

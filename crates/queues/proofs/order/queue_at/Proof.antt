@@ -2,11 +2,11 @@
 use Prim.Native.Nat.{_-_}
 use native.Mathlib.Omega.{arith}
 use Rattle.queues.proofs.Finding.{Fixing, fixing-begins, fixing-leads, fixing-goes-on, fixing-ends}
-use Rattle.queues.proofs.number.queue_at.Statement.{statement}
-use Rattle.queues.proofs.number.queue_at.Tie as tie
-use Rattle.queues.proofs.number.queue_at.Reads as reads
-use Rattle.queues.proofs.number.queue_at.Lts as lts
-use Rattle.queues.proofs.number.next_total.Reads as next-total-reads
+use Rattle.queues.proofs.order.queue_at.Statement.{statement}
+use Rattle.queues.proofs.order.queue_at.Tie as tie
+use Rattle.queues.proofs.order.queue_at.Reads as reads
+use Rattle.queues.proofs.order.queue_at.Lts as lts
+use Rattle.queues.proofs.order.next_total.Reads as next-total-reads
 
 abbrev Inv-loop : tie.InvT-loop
 Inv-loop largest bound number queue₀ found₀ u₀ queue found u = Fixing largest bound number queue (found .total) (found .slack) (found .place) u

@@ -7,11 +7,11 @@ use Rattle.process.proofs.Sums.{sum-next, sum-whole}
 use Rattle.model.specs.Queue.{queueIn}
 use Rattle.queues.specs.Numbers.{earlierAt}
 use Rattle.queues.proofs.Numbering.{position-fits, number-whole}
-use Rattle.queues.proofs.number.number.Statement.{statement}
-use Rattle.queues.proofs.number.number.Tie as tie
-use Rattle.queues.proofs.number.number.Reads as reads
-use Rattle.queues.proofs.number.number.Lts as lts
-use Rattle.queues.proofs.number.earlier.Reads as earlier-reads
+use Rattle.queues.proofs.order.number.Statement.{statement}
+use Rattle.queues.proofs.order.number.Tie as tie
+use Rattle.queues.proofs.order.number.Reads as reads
+use Rattle.queues.proofs.order.number.Lts as lts
+use Rattle.queues.proofs.order.earlier.Reads as earlier-reads
 
 abbrev Inv-loop : tie.InvT-loop
 Inv-loop largest bound queue all₀ u₀ all u = (u ≤ bound) × (all ≡ sum (earlierAt largest (queueIn bound queue)) u)

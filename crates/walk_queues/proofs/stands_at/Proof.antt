@@ -1,0 +1,35 @@
+-- `stands_at` is safe: the number of a bearable queue is below N.
+use native.Mathlib.Omega.{arith}
+use borrow.Author.Needs.{needs}
+use Rattle.queues.proofs.RoundTrip.{number-in-below}
+use Rattle.walk_queues.proofs.stands_at.Statement.{statement}
+use Rattle.walk_queues.proofs.stands_at.Tie as tie
+use Rattle.walk_queues.proofs.stands_at.Reads as reads
+use Rattle.walk_queues.proofs.stands_at.Lts as lts
+use Rattle.queues.proofs.number.Reads as number-reads
+use Rattle.queues.proofs.queue_at.Reads as queue-at-reads
+use Rattle.walk_queues.proofs.same.Reads as same-reads
+
+number-requires : tie.Need-number-requires
+number-requires c κs = search needs
+
+returns : tie.Need-returns
+returns c = search needs
+
+queue-at-requires : tie.Need-queue-at-requires
+queue-at-requires c κs =
+    let given = c .before .before in (
+      given .pre .ranges,
+      omega
+          (arith, c .before .number .ensures, number-in-below (given .args .largest) (given .args .bound) (given .args .queue) (omega arith) (given .pre)),
+    )
+
+same-requires : tie.Need-same-requires
+same-requires c κs = search needs
+
+returns-2 : tie.Need-returns-2
+returns-2 c = search needs
+
+pub stands-at-spec : {M : Type 1} → statement M
+stands-at-spec =
+    tie.close (tie.spec number-requires returns queue-at-requires same-requires returns-2)
