@@ -1,5 +1,5 @@
 pub mod Bounds
-pub mod Table
+pub mod Rule
 pub mod Places
 pub mod Slots
 pub mod Numbering

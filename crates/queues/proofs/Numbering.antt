@@ -153,18 +153,18 @@ module _ (M D : ℕ) (places : List ℕ) (six : length places ≡ 6) (n : Number
       }
 
   -- and the sum of their counts is what comes before
-  pub position-earlier : (b : ℕ) → b ≡ total places u →
-      sum (λ j. continuationCount M (D - 1 - u) ((u + 1) * M - getD places u 0 + 1 + j)) (getD places u 0 - b) ≡
-      earlierAt M (queueIn D places) u
+  pub position-earlier : (b k : ℕ) → b ≡ total places u →
+      k ≡ sum (λ j. continuationCount M (D - 1 - u) ((u + 1) * M - getD places u 0 + 1 + j)) (getD places u 0 - b) →
+      k ≡ earlierAt M (queueIn D places) u
   unfolding earlierAt
-  position-earlier b e =
+  position-earlier b k e d =
       let w = queueIn D places in
       let here = total-in D places (suc u) h in
       let before = total-in D places u (omega arith) in
       let left : D - 1 - u ≡ length w - suc u = omega (arith, length-in D places (omega (arith, n .ranges .bound-high))) in
       let slack : (u + 1) * M - getD places u 0 + 1 ≡ suc (suc u * M - total w (suc u)) = omega (arith, here, ap (λ k. k * M) (add-one u)) in
       let many : getD places u 0 - b ≡ total w (suc u) - total w u = omega (arith, here, before) in
-      ap (λ (r : ℕ). sum (λ j. continuationCount M r ((u + 1) * M - getD places u 0 + 1 + j)) (getD places u 0 - b)) left ∙
+      d ∙ ap (λ (r : ℕ). sum (λ j. continuationCount M r ((u + 1) * M - getD places u 0 + 1 + j)) (getD places u 0 - b)) left ∙
       ap (λ (g : ℕ). sum (λ j. continuationCount M (length w - suc u) (g + j)) (getD places u 0 - b)) slack ∙
       ap (sum (λ j. continuationCount M (length w - suc u) (suc (suc u * M - total w (suc u)) + j))) many
 

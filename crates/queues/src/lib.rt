@@ -7,6 +7,7 @@ mod counts;
 mod order;
 mod slot;
 
+pub use counts::table;
 pub use order::number;
 pub use order::queue_at;
 pub use order::queue_count;

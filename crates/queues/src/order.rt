@@ -7,42 +7,43 @@ ghost use mathlib.Core.List.{[]};
 ghost use lib.ListN.{getD};
 ghost use Rattle.process.specs.Sums.{sum};
 ghost use Rattle.model.specs.Queue.{queueIn, placesOf, bearableQueues, queueCount, numberOf, continuationCount};
-ghost use Rattle.queues.specs.Counts.{InTable};
+ghost use Rattle.queues.specs.Counts.{InTable, HoldsCounts};
 ghost use Rattle.queues.specs.Numbers.{Ranges, Numbered, earlierAt, Leads, Follows};
 
 // The sum of the counts of n slacks, of which this is the least.
-fn sum_of_counts(largest: u32, left: usize, slack: u32, n: u32) -> usize
-    requires { ⌜ ((j : ℕ) → j < n → InTable largest left (slack + j)) ⌝ }
+fn sum_of_counts(counts: &[u32; 2352], largest: u32, left: usize, slack: u32, n: u32) -> usize
+    requires { ⌜ HoldsCounts (now counts) × ((j : ℕ) → j < n → InTable largest left (slack + j)) ⌝ }
     ensures { λ r. ⌜ r ≡ sum (λ j. continuationCount largest left (slack + j)) n ⌝ }
 {
     let mut all = 0;
     let mut j = 0;
     while j < n {
-        all += count(largest, left, slack + j);
+        all += count(counts, largest, left, slack + j);
         j += 1;
     }
     all
 }
 
 // N, the number of bearable queues.
-pub fn queue_count(largest: u32, bound: usize) -> usize
-    requires { ⌜ Ranges largest bound ⌝ }
+pub fn queue_count(counts: &[u32; 2352], largest: u32, bound: usize) -> usize
+    requires { ⌜ HoldsCounts (now counts) × Ranges largest bound ⌝ }
     ensures { λ r. ⌜ r ≡ queueCount largest bound ⌝ }
 {
     if bound == 0 {
         return 1;
     }
-    sum_of_counts(largest, bound - 1, 0, largest + 1)
+    sum_of_counts(counts, largest, bound - 1, 0, largest + 1)
 }
 
 // How many bearable queues agree with this one up to w(u) and have less than it at w(u+1): their slacks there are those above its own.
-fn earlier(largest: u32, bound: usize, queue: [u32; 6], u: usize) -> usize
-    requires { ⌜ (u < bound) × Numbered largest bound queue ⌝ }
+fn earlier(counts: &[u32; 2352], largest: u32, bound: usize, queue: [u32; 6], u: usize) -> usize
+    requires { ⌜ HoldsCounts (now counts) × (u < bound) × Numbered largest bound queue ⌝ }
     ensures { λ r. ⌜ r ≡ earlierAt largest (queueIn bound queue) u ⌝ }
 {
     let here = queue[u];
     let slack = (u as u32 + 1) * largest - here;
     sum_of_counts(
+        counts,
         largest,
         bound - 1 - u,
         slack + 1,
@@ -51,14 +52,14 @@ fn earlier(largest: u32, bound: usize, queue: [u32; 6], u: usize) -> usize
 }
 
 // The number of a bearable queue.
-pub fn number(largest: u32, bound: usize, queue: [u32; 6]) -> usize
-    requires { ⌜ Numbered largest bound queue ⌝ }
+pub fn number(counts: &[u32; 2352], largest: u32, bound: usize, queue: [u32; 6]) -> usize
+    requires { ⌜ HoldsCounts (now counts) × Numbered largest bound queue ⌝ }
     ensures { λ r. ⌜ r ≡ numberOf largest (queueIn bound queue) ⌝ }
 {
     let mut all = 0;
     let mut u = 0;
     while u < bound {
-        all += earlier(largest, bound, queue, u);
+        all += earlier(counts, largest, bound, queue, u);
         u += 1;
     }
     all
@@ -72,15 +73,15 @@ struct Found {
 }
 
 // The next total: of those that may come next the last whose queues do not all stand before the place.
-fn next_total(largest: u32, left: usize, found: Found) -> Found
-    requires { ⌜ Leads largest (suc left) (found .total) (found .slack) (found .place) ⌝ }
+fn next_total(counts: &[u32; 2352], largest: u32, left: usize, found: Found) -> Found
+    requires { ⌜ HoldsCounts (now counts) × Leads largest (suc left) (found .total) (found .slack) (found .place) ⌝ }
     ensures { λ r. ⌜ Follows largest left (found .total) (found .slack) (found .place) (r .total) (r .slack) (r .place) ⌝ }
 {
     let mut total = found.total;
     let mut slack = found.slack + largest;
     let mut place = found.place;
     loop {
-        let here = count(largest, left, slack);
+        let here = count(counts, largest, left, slack);
         if place < here {
             return Found {
                 total,
@@ -95,8 +96,8 @@ fn next_total(largest: u32, left: usize, found: Found) -> Found
 }
 
 // The queue of a number.
-pub fn queue_at(largest: u32, bound: usize, number: usize) -> [u32; 6]
-    requires { ⌜ Ranges largest bound × (number < queueCount largest bound) ⌝ }
+pub fn queue_at(counts: &[u32; 2352], largest: u32, bound: usize, number: usize) -> [u32; 6]
+    requires { ⌜ HoldsCounts (now counts) × Ranges largest bound × (number < queueCount largest bound) ⌝ }
     ensures { λ r. ⌜ r ≡ placesOf (getD (bearableQueues largest bound) number []) ⌝ }
 {
     let mut queue = [0; 6];
@@ -107,7 +108,7 @@ pub fn queue_at(largest: u32, bound: usize, number: usize) -> [u32; 6]
     };
     let mut u = 0;
     while u < bound {
-        found = next_total(largest, bound - 1 - u, found);
+        found = next_total(counts, largest, bound - 1 - u, found);
         queue[u] = found.total;
         u += 1;
     }

@@ -1,6 +1,7 @@
 // Walks every list of totals of a few sizes, one more than is bearable at each position too, in dictionary order. It counts those that
 // are bearable, and of these the ones whose number is how many came before and whose number gives the queue back.
 ghost use Prim.Native.Nat.{_+_, _≤_, _<_};
+ghost use Rattle.queues.specs.Counts.{HoldsCounts};
 ghost use Rattle.queues.specs.Numbers.{Ranges, Numbered};
 
 // How many bearable queues were met, and how many of them stood at their numbers.
@@ -15,34 +16,34 @@ fn same(a: [u32; 6], b: [u32; 6]) -> bool {
 }
 
 // Whether a bearable queue has this number, and the number gives it back.
-fn stands_at(largest: u32, bound: usize, queue: [u32; 6], place: u64) -> bool
-    requires { ⌜ Numbered largest bound queue ⌝ }
+fn stands_at(counts: &[u32; 2352], largest: u32, bound: usize, queue: [u32; 6], place: u64) -> bool
+    requires { ⌜ HoldsCounts (now counts) × Numbered largest bound queue ⌝ }
 {
-    let found = queues::number(largest, bound, queue);
+    let found = queues::number(counts, largest, bound, queue);
     if found as u64 != place {
         return false;
     }
-    same(queues::queue_at(largest, bound, found), queue)
+    same(queues::queue_at(counts, largest, bound, found), queue)
 }
 
 // What was met, with one list of totals more.
-fn met(largest: u32, bound: usize, queue: [u32; 6], walked: Walked) -> Walked
-    requires { ⌜ Ranges largest bound × (walked .queues < 1000000) × (walked .right ≤ walked .queues) ⌝ }
+fn met(counts: &[u32; 2352], largest: u32, bound: usize, queue: [u32; 6], walked: Walked) -> Walked
+    requires { ⌜ HoldsCounts (now counts) × Ranges largest bound × (walked .queues < 1000000) × (walked .right ≤ walked .queues) ⌝ }
     ensures { λ r. ⌜ (r .queues ≤ walked .queues + 1) × (r .right ≤ r .queues) ⌝ }
 {
     if !queues::bearable(largest, bound, queue) {
         return walked;
     }
-    if !stands_at(largest, bound, queue, walked.queues) {
+    let queues = walked.queues + 1;
+    let before = walked.right;
+    if !stands_at(counts, largest, bound, queue, walked.queues) {
         return Walked {
-            queues: walked.queues + 1,
-            right: walked.right,
+            queues,
+            right: before,
         };
     }
-    Walked {
-        queues: walked.queues + 1,
-        right: walked.right + 1,
-    }
+    let right = before + 1;
+    Walked { queues, right }
 }
 
 // The next list of totals in dictionary order; after the last one, the first.
@@ -63,8 +64,8 @@ fn next(largest: u32, bound: usize, queue: [u32; 6]) -> [u32; 6]
 }
 
 // All lists of totals, of which there are fewer than a million.
-fn walk(largest: u32, bound: usize) -> Walked
-    requires { ⌜ Ranges largest bound ⌝ }
+fn walk(counts: &[u32; 2352], largest: u32, bound: usize) -> Walked
+    requires { ⌜ HoldsCounts (now counts) × Ranges largest bound ⌝ }
 {
     let mut queue = [0; 6];
     let mut walked = Walked {
@@ -73,7 +74,7 @@ fn walk(largest: u32, bound: usize) -> Walked
     };
     let mut left: u64 = 1000000;
     while 0 < left {
-        walked = met(largest, bound, queue, walked);
+        walked = met(counts, largest, bound, queue, walked);
         let totals = next(largest, bound, queue);
         if same(totals, [0; 6]) {
             return walked;
@@ -85,10 +86,10 @@ fn walk(largest: u32, bound: usize) -> Walked
 }
 
 // A line for one size.
-fn print_walk(largest: u32, bound: usize)
-    requires { ⌜ Ranges largest bound ⌝ }
+fn print_walk(counts: &[u32; 2352], largest: u32, bound: usize)
+    requires { ⌜ HoldsCounts (now counts) × Ranges largest bound ⌝ }
 {
-    let walked = walk(largest, bound);
+    let walked = walk(counts, largest, bound);
     io::write_all(1, b"M ");
     io::print_decimal(1, largest as u64);
     io::write_all(1, b" D ");
@@ -98,13 +99,14 @@ fn print_walk(largest: u32, bound: usize)
     io::write_all(1, b" queues, ");
     io::print_decimal(1, walked.right);
     io::write_all(1, b" at their numbers, N ");
-    io::print_decimal(1, queues::queue_count(largest, bound) as u64);
+    io::print_decimal(1, queues::queue_count(counts, largest, bound) as u64);
     io::write_all(1, b"\n");
 }
 
 fn main() {
-    print_walk(2, 3);
-    print_walk(8, 2);
-    print_walk(3, 5);
-    print_walk(2, 6);
+    let counts = queues::table();
+    print_walk(&counts, 2, 3);
+    print_walk(&counts, 8, 2);
+    print_walk(&counts, 3, 5);
+    print_walk(&counts, 2, 6);
 }

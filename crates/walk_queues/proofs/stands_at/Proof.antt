@@ -19,9 +19,10 @@ returns c = search needs
 queue-at-requires : tie.Need-queue-at-requires
 queue-at-requires c κs =
     let given = c .before .before in (
-      given .pre .ranges,
+      given .pre .0,
+      given .pre .1 .ranges,
       omega
-          (arith, c .before .number .ensures, number-in-below (given .args .largest) (given .args .bound) (given .args .queue) (omega arith) (given .pre)),
+          (arith, c .before .number .ensures, number-in-below (given .args .largest) (given .args .bound) (given .args .queue) (omega arith) (given .pre .1)),
     )
 
 same-requires : tie.Need-same-requires

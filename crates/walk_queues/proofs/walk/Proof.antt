@@ -10,10 +10,10 @@ use Rattle.walk_queues.proofs.next.Reads as next-reads
 use Rattle.walk_queues.proofs.same.Reads as same-reads
 
 abbrev Inv-loop : tie.InvT-loop
-Inv-loop largest bound queue₀ walked₀ left₀ queue walked left = (walked .queues + left ≤ 1000000) × (walked .right ≤ walked .queues)
+Inv-loop counts largest bound queue₀ walked₀ left₀ queue walked left = (walked .queues + left ≤ 1000000) × (walked .right ≤ walked .queues)
 
 abbrev μ-loop : tie.MeasureT-loop
-μ-loop largest bound queue₀ walked₀ left₀ queue walked left = left
+μ-loop counts largest bound queue₀ walked₀ left₀ queue walked left = left
 
 loop-holds : tie.Need-loop-holds Inv-loop μ-loop
 loop-holds c = search needs

@@ -1,33 +1,20 @@
--- `count` meets its contract: the constant, as the code has it, passes the test of proofs/Table.antt, which the checker computes here.
-use Prim.Native.Nat.{ℕ, _+_}
-use mathlib.Core.Path.{_≡_, subst, sym}
-use mathlib.Core.List.{List}
+-- `count` meets its contract: it reads the place of its three numbers, which holds the count.
+use mathlib.Core.Path.{_≡_}
 use native.Mathlib.Omega.{arith}
-use lib.Dec.{T}
 use lib.ListN.{getD}
-use mir.Syntax.{w64}
-use mir.Val.{Fits}
-use borrow.Author.Needs.{needs}
-use Rattle.process.specs.Sums.{sum}
-use Rattle.model.specs.Tests.{everywhere}
 use Rattle.model.specs.Queue.{continuationCount}
+use Rattle.queues.specs.Counts.{tablePlace}
 use Rattle.queues.proofs.Bounds.{slack-small, count-small}
-use Rattle.queues.proofs.Table.{row, rule, rowRuled, ruled, ruled-at, start}
+use borrow.Author.Needs.{needs}
 use Rattle.queues.proofs.counts.count.Statement.{statement}
 use Rattle.queues.proofs.counts.count.Tie as tie
 use Rattle.queues.proofs.counts.count.Reads as reads
 use Rattle.queues.proofs.counts.count.Lts as lts
 
--- the constant as the code has it: it stands in the function's fifth local
-table : tie.Start → List ℕ
-table c = lts.m1 reads.Pre reads.Post (c .args) (c .blocks) .1 .1 .1 .1 .0
-
-table-ruled : (c : tie.Start) → T (ruled (table c))
-unfolding table ruled rowRuled row rule everywhere sum
-table-ruled c = tt
-
-entry : (c : tie.Start) → getD (table c) (start (c .args .largest) (c .args .left) + c .args .slack) 0 ≡ continuationCount (c .args .largest) (c .args .left) (c .args .slack)
-entry c = ruled-at (table c) (table-ruled c) (c .args .largest) (c .args .left) (c .args .slack) (c .pre)
+-- what stands in the place that is read
+entry : (c : tie.Start) → getD (c .args .counts .now) (tablePlace (c .args .largest) (c .args .left) (c .args .slack)) 0 ≡
+    continuationCount (c .args .largest) (c .args .left) (c .args .slack)
+entry c = c .pre .0 .needed (c .args .largest) (c .args .left) (c .args .slack) (c .pre .1)
 
 sub-result : tie.Need-sub-result
 sub-result c = search needs
@@ -47,16 +34,17 @@ add-result-2 c = search needs
 mul-result-3 : tie.Need-mul-result-3
 mul-result-3 c = search needs
 
-array-read-result : tie.Need-array-read-result
-array-read-result c = omega (arith, slack-small (c .args .largest) (c .args .left) (c .args .slack) (c .pre .speed-high) (c .pre .slack-high))
+element-copy-out-result : tie.Need-element-copy-out-result
+element-copy-out-result c =
+    omega (arith, slack-small (c .args .largest) (c .args .left) (c .args .slack) (c .pre .1 .speed-high) (c .pre .1 .slack-high))
 
 cast-result : tie.Need-cast-result
-unfolding table
-cast-result c = subst (λ n. Fits w64 n) (sym (entry c)) (omega (arith, count-small (c .args .largest) (c .args .left) (c .args .slack) (c .pre)))
+cast-result c =
+    let given = c .before in
+    omega (arith, entry given, count-small (given .args .largest) (given .args .left) (given .args .slack) (given .pre .1))
 
 returns : tie.Need-returns
-unfolding table
-returns c = entry c
+returns c = entry (c .before)
 
 pub count-spec : {M : Type 1} → statement M
 count-spec =
@@ -68,6 +56,6 @@ count-spec =
     add-result
     add-result-2
     mul-result-3
-    array-read-result
+    element-copy-out-result
     cast-result
     returns)

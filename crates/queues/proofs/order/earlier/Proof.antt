@@ -5,7 +5,6 @@ use Rattle.model.specs.Queue.{total}
 use Rattle.queues.proofs.Numbering.{position-safe, position-needed, position-earlier}
 use borrow.Author.Needs.{needs}
 use lib.ListN.{getD}
-use mathlib.Core.Path.{_∙_}
 use Rattle.queues.proofs.order.earlier.Statement.{statement}
 use Rattle.queues.proofs.order.earlier.Tie as tie
 use Rattle.queues.proofs.order.earlier.Reads as reads
@@ -14,9 +13,9 @@ use Rattle.queues.proofs.order.sum_of_counts.Reads as sum-of-counts-rea
 use Rattle.queues.proofs.slot.total.Reads as total-reads
 
 -- what is known of the position
-known : (c : tie.Start) → (total (c .args .t3) (c .args .u) ≤ getD (c .args .t3) (c .args .u) 0) ×
-    (getD (c .args .t3) (c .args .u) 0 ≤ (c .args .u + 1) * c .args .largest) × ((c .args .u + 1) * c .args .largest ≤ 48)
-known c = position-safe (c .args .largest) (c .args .bound) (c .args .t3) (omega arith) (c .pre .1) (c .args .u) (c .pre .0)
+known : (c : tie.Start) → (total (c .args .t4) (c .args .u) ≤ getD (c .args .t4) (c .args .u) 0) ×
+    (getD (c .args .t4) (c .args .u) 0 ≤ (c .args .u + 1) * c .args .largest) × ((c .args .u + 1) * c .args .largest ≤ 48)
+known c = position-safe (c .args .largest) (c .args .bound) (c .args .t4) (omega arith) (c .pre .2) (c .args .u) (c .pre .1)
 
 mul-here : tie.Need-mul-here
 mul-here c = search needs
@@ -52,13 +51,19 @@ sub-sum-of-counts-3 : tie.Need-sub-sum-of-counts-3
 sub-sum-of-counts-3 c = omega (arith, c .total .ensures, known (c .before) .0)
 
 sum-of-counts-requires : tie.Need-sum-of-counts-requires
-sum-of-counts-requires c κs j h =
-    position-needed (c .before .args .largest) (c .before .args .bound) (c .before .args .t3) (omega arith) (c .before .pre .1) (c .before .args .u) (c .before .pre .0) j
-    (omega (arith, c .total .ensures))
+sum-of-counts-requires c κs =
+    let given = c .before in (
+      given .pre .0,
+      λ j h.
+          position-needed (given .args .largest) (given .args .bound) (given .args .t4) (omega arith) (given .pre .2) (given .args .u) (given .pre .1) j
+          (omega (arith, c .total .ensures)),
+    )
 
 returns : tie.Need-returns
 returns c =
-    c .sum-of-counts .ensures ∙ position-earlier (c .before .before .args .largest) (c .before .before .args .bound) (c .before .before .args .t3) (omega arith) (c .before .before .pre .1) (c .before .before .args .u) (c .before .before .pre .0) (c .before .total .result) (c .before .total .ensures)
+    let given = c .before .before in
+    position-earlier (given .args .largest) (given .args .bound) (given .args .t4) (omega arith) (given .pre .2) (given .args .u) (given .pre .1)
+    (c .before .total .result) (c .sum-of-counts .result) (c .before .total .ensures) (c .sum-of-counts .ensures)
 
 pub earlier-spec : {M : Type 1} → statement M
 earlier-spec =

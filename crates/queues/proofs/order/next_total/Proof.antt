@@ -9,19 +9,19 @@ use Rattle.queues.proofs.order.next_total.Lts as lts
 use Rattle.queues.proofs.counts.count.Reads as count-reads
 
 abbrev Inv-loop : tie.InvT-loop
-Inv-loop largest left total₀ slack₀ place₀ total slack place = Searching largest left total₀ slack₀ place₀ total slack place
+Inv-loop counts largest left total₀ slack₀ place₀ total slack place = Searching largest left total₀ slack₀ place₀ total slack place
 
 abbrev μ-loop : tie.MeasureT-loop
-μ-loop largest left total₀ slack₀ place₀ total slack place = slack
+μ-loop counts largest left total₀ slack₀ place₀ total slack place = slack
 
 add-slack : tie.Need-add-slack Inv-loop μ-loop
 add-slack c = omega arith
 
 loop-holds : tie.Need-loop-holds Inv-loop μ-loop
-loop-holds c = search-begins (c .before .pre)
+loop-holds c = search-begins (c .before .pre .1)
 
 count-requires : tie.Need-count-requires Inv-loop μ-loop
-count-requires c κs = search-needed (c .before .before .pre) (c .loop .inv)
+count-requires c κs = (c .before .before .pre .0, search-needed (c .before .before .pre .1) (c .loop .inv))
 
 returns : tie.Need-returns Inv-loop μ-loop
 returns c = search-ends (c .before .before .loop .inv) (omega (arith, c .before .count .ensures))

@@ -14,17 +14,17 @@ use Rattle.queues.proofs.order.number.Lts as lts
 use Rattle.queues.proofs.order.earlier.Reads as earlier-reads
 
 abbrev Inv-loop : tie.InvT-loop
-Inv-loop largest bound queue all₀ u₀ all u = (u ≤ bound) × (all ≡ sum (earlierAt largest (queueIn bound queue)) u)
+Inv-loop counts largest bound queue all₀ u₀ all u = (u ≤ bound) × (all ≡ sum (earlierAt largest (queueIn bound queue)) u)
 
 abbrev μ-loop : tie.MeasureT-loop
-μ-loop largest bound queue all₀ u₀ all u = bound - u
+μ-loop counts largest bound queue all₀ u₀ all u = bound - u
 
 loop-holds : tie.Need-loop-holds Inv-loop μ-loop
 unfolding sum
 loop-holds c = (omega arith, refl)
 
 earlier-requires : tie.Need-earlier-requires Inv-loop μ-loop
-earlier-requires c κs = (c .loop-test .taken, c .before .before .pre)
+earlier-requires c κs = (c .before .before .pre .0, c .loop-test .taken, c .before .before .pre .1)
 
 add-all : tie.Need-add-all Inv-loop μ-loop
 add-all c =
@@ -38,7 +38,7 @@ add-all c =
           (given .args .bound)
           (given .args .queue)
           (omega arith)
-          (given .pre)
+          (given .pre .1)
           (c .before .before .loop .u)
           (c .before .loop-test .taken),
     )
@@ -56,7 +56,7 @@ returns : tie.Need-returns Inv-loop μ-loop
 returns c =
     let given = c .before .before in
     sum-whole _ (c .before .loop .u) (given .args .bound) (c .before .loop .inv .1) (omega arith) (omega arith) ∙
-    number-whole (given .args .largest) (given .args .bound) (given .args .queue) (omega arith) (given .pre)
+    number-whole (given .args .largest) (given .args .bound) (given .args .queue) (omega arith) (given .pre .1)
 
 pub number-spec : {M : Type 1} → statement M
 number-spec =

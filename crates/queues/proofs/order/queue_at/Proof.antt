@@ -9,13 +9,13 @@ use Rattle.queues.proofs.order.queue_at.Lts as lts
 use Rattle.queues.proofs.order.next_total.Reads as next-total-reads
 
 abbrev Inv-loop : tie.InvT-loop
-Inv-loop largest bound number queue₀ found₀ u₀ queue found u = Fixing largest bound number queue (found .total) (found .slack) (found .place) u
+Inv-loop counts largest bound number queue₀ found₀ u₀ queue found u = Fixing largest bound number queue (found .total) (found .slack) (found .place) u
 
 abbrev μ-loop : tie.MeasureT-loop
-μ-loop largest bound number queue₀ found₀ u₀ queue found u = bound - u
+μ-loop counts largest bound number queue₀ found₀ u₀ queue found u = bound - u
 
 loop-holds : tie.Need-loop-holds Inv-loop μ-loop
-loop-holds c = fixing-begins (c .args .largest) (c .args .bound) (c .args .number) (c .pre .1)
+loop-holds c = fixing-begins (c .args .largest) (c .args .bound) (c .args .number) (c .pre .2)
 
 sub-next-total : tie.Need-sub-next-total Inv-loop μ-loop
 sub-next-total c = omega arith
@@ -24,7 +24,7 @@ sub-next-total-2 : tie.Need-sub-next-total-2 Inv-loop μ-loop
 sub-next-total-2 c = omega arith
 
 next-total-requires : tie.Need-next-total-requires Inv-loop μ-loop
-next-total-requires c κs = fixing-leads (c .before .before .pre .0) (c .before .loop .inv) (c .loop-test .taken)
+next-total-requires c κs = (c .before .before .pre .0, fixing-leads (c .before .before .pre .1) (c .before .loop .inv) (c .loop-test .taken))
 
 mul-queue : tie.Need-mul-queue Inv-loop μ-loop
 mul-queue c = omega arith
@@ -40,7 +40,7 @@ loop-less c = omega arith
 
 loop-again : tie.Need-loop-again Inv-loop μ-loop
 loop-again c =
-    fixing-goes-on (c .before .before .before .pre .0) (c .before .before .loop .inv) (c .before .loop-test .taken) (c .next-total .ensures)
+    fixing-goes-on (c .before .before .before .pre .1) (c .before .before .loop .inv) (c .before .loop-test .taken) (c .next-total .ensures)
 
 returns : tie.Need-returns Inv-loop μ-loop
 returns c = fixing-ends (c .before .loop .inv) (c .loop-test .left)

@@ -18,7 +18,8 @@ add-sum-of-counts : tie.Need-add-sum-of-counts
 add-sum-of-counts c = search needs
 
 sum-of-counts-requires : tie.Need-sum-of-counts-requires
-sum-of-counts-requires c κs = queues-needed (c .before .args .largest) (c .before .args .bound) (c .before .pre) (c .if1 .left)
+sum-of-counts-requires c κs =
+    (c .before .pre .0, queues-needed (c .before .args .largest) (c .before .args .bound) (c .before .pre .1) (c .if1 .left))
 
 returns-2 : tie.Need-returns-2
 returns-2 c = c .sum-of-counts .ensures ∙ queues-counted (c .before .before .args .largest) (c .before .before .args .bound) (c .before .if1 .left)

@@ -13,10 +13,10 @@ use Rattle.queues.proofs.order.sum_of_counts.Lts as lts
 use Rattle.queues.proofs.counts.count.Reads as count-reads
 
 abbrev Inv-loop : tie.InvT-loop
-Inv-loop largest left slack n all₀ j₀ all j = (j ≤ n) × (all ≡ sum (λ i. continuationCount largest left (slack + i)) j)
+Inv-loop counts largest left slack n all₀ j₀ all j = (j ≤ n) × (all ≡ sum (λ i. continuationCount largest left (slack + i)) j)
 
 abbrev μ-loop : tie.MeasureT-loop
-μ-loop largest left slack n all₀ j₀ all j = n - j
+μ-loop counts largest left slack n all₀ j₀ all j = n - j
 
 loop-holds : tie.Need-loop-holds Inv-loop μ-loop
 unfolding sum
@@ -25,26 +25,26 @@ loop-holds c = (omega arith, refl)
 add-count : tie.Need-add-count Inv-loop μ-loop
 add-count c =
     let given = c .before .before in
-    let needed = given .pre (c .before .loop .j) (c .loop-test .taken) in
+    let needed = given .pre .1 (c .before .loop .j) (c .loop-test .taken) in
     omega (
       arith,
       slack-small (given .args .largest) (given .args .left) (given .args .slack + c .before .loop .j) (needed .speed-high) (needed .slack-high),
     )
 
 count-requires : tie.Need-count-requires Inv-loop μ-loop
-count-requires c κs = c .before .before .pre (c .before .loop .j) (c .loop-test .taken)
+count-requires c κs = (c .before .before .pre .0, c .before .before .pre .1 (c .before .loop .j) (c .loop-test .taken))
 
 add-all : tie.Need-add-all Inv-loop μ-loop
 add-all c =
     let given = c .before .before .before in
     let j = c .before .before .loop .j in
-    let needed = given .pre j (c .before .loop-test .taken) in
+    let needed = given .pre .1 j (c .before .loop-test .taken) in
     omega (
       arith,
       c .count .ensures,
       c .before .before .loop .inv .1,
       count-small (given .args .largest) (given .args .left) (given .args .slack + j) needed,
-      counts-small (given .args .largest) (given .args .left) (given .args .slack) (given .args .n) (given .pre) j (c .before .before .loop .inv .0),
+      counts-small (given .args .largest) (given .args .left) (given .args .slack) (given .args .n) (given .pre .1) j (c .before .before .loop .inv .0),
     )
 
 add-j : tie.Need-add-j Inv-loop μ-loop

@@ -1,0 +1,16 @@
+-- `table` meets its contract: the constant passes the test of proofs/Rule.antt, which the checker computes here.
+use mathlib.Core.Path.{refl}
+use Rattle.process.specs.Sums.{sum}
+use Rattle.model.specs.Tests.{everywhere}
+use Rattle.queues.proofs.Rule.{row, rule, rowRuled, ruled, ruled-holds}
+use Rattle.queues.proofs.counts.table.Statement.{statement}
+use Rattle.queues.proofs.counts.table.Tie as tie
+use Rattle.queues.proofs.counts.table.Reads as reads
+use Rattle.queues.proofs.counts.table.Lts as lts
+
+returns : tie.Need-returns
+unfolding ruled rowRuled row rule everywhere sum
+returns c = ruled-holds _ refl tt
+
+pub table-spec : {M : Type 1} → statement M
+table-spec = tie.close (tie.spec returns)
