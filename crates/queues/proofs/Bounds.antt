@@ -18,19 +18,19 @@ pub slack-small : (M r g : ℕ) → M ≤ 8 → g ≤ (6 - r) * M → g ≤ 48
 slack-small M r g high h = let few : 6 - r ≤ 6 = omega arith in omega (arith, mul-le-mul few high)
 
 -- each position has at most 49 slacks
-pub few : (M r g : ℕ) → M ≤ 8 → r ≤ 6 → g ≤ (6 - r) * M → continuationCount M r g ≤ 49 ^ r
+pub count-few : (M r g : ℕ) → M ≤ 8 → r ≤ 6 → g ≤ (6 - r) * M → continuationCount M r g ≤ 49 ^ r
 unfolding continuationCount
-few M zero g high left h = le-refl 1
-few M (suc r) g high left h =
+count-few M zero g high left h = le-refl 1
+count-few M (suc r) g high left h =
     let each : sum (continuationCount M r) (suc (g + M)) ≤ suc (g + M) * 49 ^ r =
-    sum-upto (suc (g + M)) (49 ^ r) (λ i l. few M r i high (omega arith) (omega (arith, wider M r left))) in
+    sum-upto (suc (g + M)) (49 ^ r) (λ i l. count-few M r i high (omega arith) (omega (arith, wider M r left))) in
     let slacks : suc (g + M) ≤ 49 = omega (arith, slack-small M r (g + M) high (omega (arith, wider M r left))) in
     omega (arith, each, mul-le-mul-right (49 ^ r) slacks, pow-suc 49 r)
 
 -- a count that is needed has at most five positions to fill
 pub count-small : (M r g : ℕ) → InTable M r g → continuationCount M r g ≤ 49 ^ 5
 count-small M r g i =
-    le-trans (few M r g (i .speed-high) (omega arith) (i .slack-high)) (pow-le-pow-right (zero-lt-suc 48) (i .left-high))
+    le-trans (count-few M r g (i .speed-high) (omega arith) (i .slack-high)) (pow-le-pow-right (zero-lt-suc 48) (i .left-high))
 
 -- nor does their sum pass what that allows
 pub counts-small : (M r g n : ℕ) → ((j : ℕ) → j < n → InTable M r (g + j)) → (j : ℕ) → j ≤ n →
@@ -40,4 +40,4 @@ counts-small M r g n needed j h = sum-upto j (49 ^ 5) (λ i l. count-small M r (
 -- N is at most 49 ^ 6
 pub queues-few : (M D : ℕ) → M ≤ 8 → D ≤ 6 → queueCount M D ≤ 49 ^ 6
 queues-few M D high bound =
-    le-trans (omega (arith, queue-count M D, few M D 0 high bound zero-le)) (pow-le-pow-right {n = 49} (zero-lt-suc 48) bound)
+    le-trans (omega (arith, queue-count M D, count-few M D 0 high bound zero-le)) (pow-le-pow-right {n = 49} (zero-lt-suc 48) bound)

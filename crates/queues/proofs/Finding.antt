@@ -1,7 +1,7 @@
 -- The queue of a number, total by total. What is fixed so far, followed by the queue that stands at the place in the list of all that may
 -- follow, is the queue wanted; no sum is needed.
 use Prim.Native.Nat.{ℕ, zero, suc, _+_, _*_, _-_, _≤_, _<_}
-use mathlib.Core.Path.{_≡_, refl, sym, ap, _∙_, subst}
+use mathlib.Core.Path.{_≡_, refl, sym, ap, _∙_}
 use mathlib.Core.List.{List, [], _∷_, _++_, map, append-assoc, append-nil}
 use native.Mathlib.Nat.{le-refl, mul-le-mul, mul-le-mul-right, not-suc-le-zero, le-of-suc-le-suc, suc-mul}
 use native.Mathlib.Numerals.{add-one}
@@ -9,10 +9,10 @@ use native.Mathlib.Omega.{arith}
 use lib.ListN.{length, getD, take, set, replicate, length-set, length-map, List·getD-append}
 use lib.Seq.{take-suc-set, getD-set-other, getD-append-add}
 use Rattle.process.specs.Sums.{sum}
-use Rattle.model.specs.Queue.{Queue, queueIn, placesOf, eachTotal, continuations, bearableQueues, queueCount, continuationCount}
+use Rattle.model.specs.Queue.{Queue, placesOf, eachTotal, continuations, bearableQueues, queueCount, continuationCount}
 use Rattle.model.proofs.Queues.{continuations-count, queue-count}
 use Rattle.queues.specs.Counts.{InTable}
-use Rattle.queues.specs.Numbers.{Ranges, Leads, Follows, following}
+use Rattle.queues.specs.Order.{Ranges, Leads, Follows, following}
 use Rattle.queues.proofs.Bounds.{wider}
 use Rattle.queues.proofs.Places.{getD-zeros, places-in}
 

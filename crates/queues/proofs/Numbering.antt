@@ -1,14 +1,14 @@
 -- The number of a bearable queue is a sum of counts, position by position: at each, the counts of the queues that agree so far and have
 -- less there.
-use Prim.Native.Nat.{ℕ, zero, suc, _+_, _*_, _-_, _^_, _≤_, _<_, zero-le}
+use Prim.Native.Nat.{ℕ, zero, suc, _+_, _*_, _-_, _^_, _≤_, _<_}
 use mathlib.Core.Path.{_≡_, refl, sym, ap, _∙_, subst}
-use mathlib.Core.Bool.{Bool, true, false, cond, _&&_}
+use mathlib.Core.Bool.{Bool, true, false, cond}
 use mathlib.Core.List.{List, [], _∷_, _++_, map, List·Memᴰ}
 use mathlib.Core.Logic.{⊎-elim}
-use native.Mathlib.Nat.{zero-add, add-zero, add-suc, suc-mul, zero-mul, le-refl, eq-or-lt-of-le, not-suc-le-zero, mul-le-mul, mul-le-mul-right}
+use native.Mathlib.Nat.{zero-add, add-zero, add-suc, suc-mul, eq-or-lt-of-le, not-suc-le-zero, mul-le-mul, mul-le-mul-right}
 use native.Mathlib.Numerals.{add-one}
 use native.Mathlib.Omega.{arith}
-use lib.Dec.{T, eqb}
+use lib.Dec.{T}
 use lib.ListN.{length, getD, drop, length-drop}
 use lib.Seq.{drop-cons, drop-length, getD-drop}
 use borrow.Author.Tests.{eq-eqb, ne-eqb}
@@ -17,7 +17,7 @@ use Rattle.process.proofs.Sums.{sum-same, sum-more}
 use Rattle.model.specs.Queue.{Queue, total, queueIn, bearable, eachTotal, continuations, bearableQueues, queueCount, placeIn, numberOf, continuationCount}
 use Rattle.model.proofs.Queues.{GoesOn, bearable-at, bearable-upto, continuations-count, continuations-in, place-found, number-below, queue-count}
 use Rattle.queues.specs.Counts.{InTable}
-use Rattle.queues.specs.Numbers.{Ranges, Numbered, earlierAt}
+use Rattle.queues.specs.Order.{Ranges, Numbered, earlierAt}
 use Rattle.queues.proofs.Bounds.{queues-few}
 use Rattle.queues.proofs.Places.{length-in, total-in}
 

@@ -1,21 +1,20 @@
 -- A queue and the six places that it stands in: the queue in the first D places, the places of a queue, the total in a place after a slot
 -- and with an arrival, and the tests that go from place to place. The proofs of src/slot.rt stand on these laws.
 use Prim.Native.Nat.{ℕ, zero, suc, _+_, _*_, _-_, min, _≤_, _<_}
-use mathlib.Core.Path.{_≡_, refl, sym, ap, _∙_, subst}
+use mathlib.Core.Path.{_≡_, refl, sym, ap, _∙_}
 use mathlib.Core.Bool.{Bool, true, false, cond, not, _&&_}
 use mathlib.Core.List.{List, [], _∷_, _++_}
-use native.Mathlib.Nat.{le-refl}
 use native.Mathlib.Numerals.{add-one}
 use native.Mathlib.Omega.{arith}
 use borrow.Author.Tests.{ltb-true, ltb-false, le-leb, lt-leb, eq-eqb, ne-eqb, not-true, not-false}
-use lib.Dec.{T, leb, ltb, eqb}
+use lib.Dec.{leb, ltb, eqb}
 use lib.ListN.{length, getD, replicate, length-append, length-take, length-replicate}
 use lib.Seq.{length-take-le, getD-take, take-take, take-append-seam, ext-getD}
 use Rattle.model.specs.Tests.{everywhere}
 use Rattle.model.specs.Queue.{Queue, total, queueIn, placesOf, bearable, bearableIn, run, arrive}
 use Rattle.model.proofs.Tests.{everywhere-fails, everywhere-more, everywhere-same}
 use Rattle.model.proofs.Queues.{total-past, length-run, length-arrive, total-run, total-arrive}
-use Rattle.queues.specs.Numbers.{Small}
+use Rattle.queues.specs.Slot.{Small}
 
 -- w(u) stands in the place before u
 pub total-at : (places : List ℕ) (u : ℕ) → (u ≡ 0 → ⊥) → total places u ≡ getD places (u - 1) 0

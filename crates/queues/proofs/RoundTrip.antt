@@ -6,9 +6,9 @@ use mathlib.Core.List.{List, []}
 use native.Mathlib.Omega.{arith}
 use lib.Dec.{T}
 use lib.ListN.{length, getD}
-use Rattle.model.specs.Queue.{queueIn, placesOf, bearable, bearableIn, bearableQueues, queueCount, numberOf}
+use Rattle.model.specs.Queue.{queueIn, placesOf, bearable, bearableQueues, queueCount, numberOf}
 use Rattle.model.proofs.Queues.{listed-bearable, number-below, number-place, number-of-place}
-use Rattle.queues.specs.Numbers.{Ranges, Numbered}
+use Rattle.queues.specs.Order.{Ranges, Numbered}
 use Rattle.queues.proofs.Places.{length-in, in-places, places-in}
 
 -- of a queue in the first D places

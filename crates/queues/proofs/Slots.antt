@@ -1,6 +1,6 @@
 -- What a slot at a speed of at least w(1) leaves of a queue: its last total stands twice, so that the positions before the last one tell
 -- the whole queue and whether it is bearable. And an arrival makes no queue bearable. The planner's steps stand on these laws.
-use Prim.Native.Nat.{ℕ, zero, suc, _*_, _-_, min, _≤_, _<_, zero-le}
+use Prim.Native.Nat.{ℕ, zero, suc, _*_, _-_, min, _≤_, _<_}
 use mathlib.Core.Path.{_≡_, refl, sym, ap, _∙_}
 use mathlib.Core.Bool.{Bool, true, false}
 use mathlib.Core.List.{[], _∷_, _++_}
@@ -13,11 +13,10 @@ use lib.Seq.{take-suc, take-all, getD-append-seam}
 use Rattle.model.specs.Queue.{Queue, total, NeverFalls, queueIn, bearable, run, arrive}
 use Rattle.model.proofs.Queues.{length-run, length-arrive, total-run, total-arrive, bearable-at, bearable-all, bearable-upto}
 use Rattle.model.proofs.Tests.{same-test}
+use Rattle.queues.specs.Slot.{kept}
 use Rattle.queues.proofs.Places.{length-in, total-in}
 
--- a queue whose last total stands once more
-abbrev pub kept : Queue → Queue
-kept v = v ++ (total v (length v) ∷ [])
+-- a queue whose last total stands once more (specs/Slot.antt)
 
 -- it has one position more
 pub length-kept : (v : Queue) → length (kept v) ≡ suc (length v)

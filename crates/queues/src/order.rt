@@ -8,7 +8,7 @@ ghost use lib.ListN.{getD};
 ghost use Rattle.process.specs.Sums.{sum};
 ghost use Rattle.model.specs.Queue.{queueIn, placesOf, bearableQueues, queueCount, numberOf, continuationCount};
 ghost use Rattle.queues.specs.Counts.{InTable, HoldsCounts};
-ghost use Rattle.queues.specs.Numbers.{Ranges, Numbered, earlierAt, Leads, Follows};
+ghost use Rattle.queues.specs.Order.{Ranges, Numbered, earlierAt, Leads, Follows};
 
 // The sum of the counts of n slacks, of which this is the least.
 fn sum_of_counts(counts: &[u32; 2352], largest: u32, left: usize, slack: u32, n: u32) -> usize
@@ -56,13 +56,13 @@ pub fn number(counts: &[u32; 2352], largest: u32, bound: usize, queue: [u32; 6])
     requires { ⌜ HoldsCounts (now counts) × Numbered largest bound queue ⌝ }
     ensures { λ r. ⌜ r ≡ numberOf largest (queueIn bound queue) ⌝ }
 {
-    let mut all = 0;
+    let mut before = 0;
     let mut u = 0;
     while u < bound {
-        all += earlier(counts, largest, bound, queue, u);
+        before += earlier(counts, largest, bound, queue, u);
         u += 1;
     }
-    all
+    before
 }
 
 // How far a queue is found: its last total so far, the slack there, and its place in the list of all that may follow.
@@ -106,11 +106,11 @@ pub fn queue_at(counts: &[u32; 2352], largest: u32, bound: usize, number: usize)
         slack: 0,
         place: number,
     };
-    let mut u = 0;
-    while u < bound {
-        found = next_total(counts, largest, bound - 1 - u, found);
-        queue[u] = found.total;
-        u += 1;
+    let mut fixed = 0;
+    while fixed < bound {
+        found = next_total(counts, largest, bound - 1 - fixed, found);
+        queue[fixed] = found.total;
+        fixed += 1;
     }
     queue
 }

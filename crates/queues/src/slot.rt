@@ -6,7 +6,7 @@ ghost use lib.Dec.{leb, eqb};
 ghost use lib.ListN.{getD};
 ghost use Rattle.model.specs.Tests.{everywhere};
 ghost use Rattle.model.specs.Queue.{total, queueIn, placesOf, bearable, bearableIn, run, arrive};
-ghost use Rattle.queues.specs.Numbers.{Small};
+ghost use Rattle.queues.specs.Slot.{Small};
 
 // w(u); w(0), the work that should be done by now, is 0.
 pub fn total(queue: [u32; 6], u: usize) -> u32

@@ -2,7 +2,7 @@
 // are bearable, and of these the ones whose number is how many came before and whose number gives the queue back.
 ghost use Prim.Native.Nat.{_+_, _≤_, _<_};
 ghost use Rattle.queues.specs.Counts.{HoldsCounts};
-ghost use Rattle.queues.specs.Numbers.{Ranges, Numbered};
+ghost use Rattle.queues.specs.Order.{Ranges, Numbered};
 
 // How many bearable queues were met, and how many of them stood at their numbers.
 struct Walked {

@@ -6,10 +6,6 @@ use Rattle.model.proofs.Queues.{held-bearable}
 use borrow.Author.Needs.{needs}
 use Rattle.walk_queues.proofs.met.Statement.{statement}
 use Rattle.walk_queues.proofs.met.Tie as tie
-use Rattle.walk_queues.proofs.met.Reads as reads
-use Rattle.walk_queues.proofs.met.Lts as lts
-use Rattle.queues.proofs.bearable.Reads as bearable-reads
-use Rattle.walk_queues.proofs.stands_at.Reads as stands-at-reads
 
 bearable-requires : tie.Need-bearable-requires
 bearable-requires c κs = search needs

@@ -4,8 +4,6 @@ use native.Mathlib.Nat.{mul-le-mul}
 use native.Mathlib.Omega.{arith}
 use Rattle.walk_queues.proofs.next.Statement.{statement}
 use Rattle.walk_queues.proofs.next.Tie as tie
-use Rattle.walk_queues.proofs.next.Reads as reads
-use Rattle.walk_queues.proofs.next.Lts as lts
 
 abbrev Inv-loop : tie.InvT-loop
 Inv-loop largest bound totals₀ u₀ totals u = u ≤ bound

@@ -4,11 +4,6 @@ use borrow.Author.Needs.{needs}
 use Rattle.queues.proofs.RoundTrip.{number-in-below}
 use Rattle.walk_queues.proofs.stands_at.Statement.{statement}
 use Rattle.walk_queues.proofs.stands_at.Tie as tie
-use Rattle.walk_queues.proofs.stands_at.Reads as reads
-use Rattle.walk_queues.proofs.stands_at.Lts as lts
-use Rattle.queues.proofs.number.Reads as number-reads
-use Rattle.queues.proofs.queue_at.Reads as queue-at-reads
-use Rattle.walk_queues.proofs.same.Reads as same-reads
 
 number-requires : tie.Need-number-requires
 number-requires c κs = search needs

@@ -3,11 +3,6 @@ use Prim.Native.Nat.{_+_, _≤_}
 use borrow.Author.Needs.{needs}
 use Rattle.walk_queues.proofs.walk.Statement.{statement}
 use Rattle.walk_queues.proofs.walk.Tie as tie
-use Rattle.walk_queues.proofs.walk.Reads as reads
-use Rattle.walk_queues.proofs.walk.Lts as lts
-use Rattle.walk_queues.proofs.met.Reads as met-reads
-use Rattle.walk_queues.proofs.next.Reads as next-reads
-use Rattle.walk_queues.proofs.same.Reads as same-reads
 
 abbrev Inv-loop : tie.InvT-loop
 Inv-loop counts largest bound queue₀ walked₀ left₀ queue walked left = (walked .queues + left ≤ 1000000) × (walked .right ≤ walked .queues)

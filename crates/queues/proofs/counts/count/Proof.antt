@@ -8,8 +8,6 @@ use Rattle.queues.proofs.Bounds.{slack-small, count-small}
 use borrow.Author.Needs.{needs}
 use Rattle.queues.proofs.counts.count.Statement.{statement}
 use Rattle.queues.proofs.counts.count.Tie as tie
-use Rattle.queues.proofs.counts.count.Reads as reads
-use Rattle.queues.proofs.counts.count.Lts as lts
 
 -- what stands in the place that is read
 entry : (c : tie.Start) → getD (c .args .counts .now) (tablePlace (c .args .largest) (c .args .left) (c .args .slack)) 0 ≡

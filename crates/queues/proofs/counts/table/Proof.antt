@@ -5,8 +5,6 @@ use Rattle.model.specs.Tests.{everywhere}
 use Rattle.queues.proofs.Rule.{row, rule, rowRuled, ruled, ruled-holds}
 use Rattle.queues.proofs.counts.table.Statement.{statement}
 use Rattle.queues.proofs.counts.table.Tie as tie
-use Rattle.queues.proofs.counts.table.Reads as reads
-use Rattle.queues.proofs.counts.table.Lts as lts
 
 returns : tie.Need-returns
 unfolding ruled rowRuled row rule everywhere sum

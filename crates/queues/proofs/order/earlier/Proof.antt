@@ -7,10 +7,6 @@ use borrow.Author.Needs.{needs}
 use lib.ListN.{getD}
 use Rattle.queues.proofs.order.earlier.Statement.{statement}
 use Rattle.queues.proofs.order.earlier.Tie as tie
-use Rattle.queues.proofs.order.earlier.Reads as reads
-use Rattle.queues.proofs.order.earlier.Lts as lts
-use Rattle.queues.proofs.order.sum_of_counts.Reads as sum-of-counts-reads
-use Rattle.queues.proofs.slot.total.Reads as total-reads
 
 -- what is known of the position
 known : (c : tie.Start) → (total (c .args .t4) (c .args .u) ≤ getD (c .args .t4) (c .args .u) 0) ×

@@ -1,12 +1,8 @@
 -- `next_total` meets its contract: the queue wanted is still at the place among those that begin with the total or a larger one.
-use Prim.Native.Nat.{_+_}
 use native.Mathlib.Omega.{arith}
 use Rattle.queues.proofs.Finding.{Searching, search-begins, search-needed, search-goes-on, search-ends}
 use Rattle.queues.proofs.order.next_total.Statement.{statement}
 use Rattle.queues.proofs.order.next_total.Tie as tie
-use Rattle.queues.proofs.order.next_total.Reads as reads
-use Rattle.queues.proofs.order.next_total.Lts as lts
-use Rattle.queues.proofs.counts.count.Reads as count-reads
 
 abbrev Inv-loop : tie.InvT-loop
 Inv-loop counts largest left total₀ slack₀ place₀ total slack place = Searching largest left total₀ slack₀ place₀ total slack place

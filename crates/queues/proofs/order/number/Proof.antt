@@ -5,19 +5,16 @@ use native.Mathlib.Omega.{arith}
 use Rattle.process.specs.Sums.{sum}
 use Rattle.process.proofs.Sums.{sum-next, sum-whole}
 use Rattle.model.specs.Queue.{queueIn}
-use Rattle.queues.specs.Numbers.{earlierAt}
+use Rattle.queues.specs.Order.{earlierAt}
 use Rattle.queues.proofs.Numbering.{position-fits, number-whole}
 use Rattle.queues.proofs.order.number.Statement.{statement}
 use Rattle.queues.proofs.order.number.Tie as tie
-use Rattle.queues.proofs.order.number.Reads as reads
-use Rattle.queues.proofs.order.number.Lts as lts
-use Rattle.queues.proofs.order.earlier.Reads as earlier-reads
 
 abbrev Inv-loop : tie.InvT-loop
-Inv-loop counts largest bound queue all₀ u₀ all u = (u ≤ bound) × (all ≡ sum (earlierAt largest (queueIn bound queue)) u)
+Inv-loop counts largest bound queue before₀ u₀ before u = (u ≤ bound) × (before ≡ sum (earlierAt largest (queueIn bound queue)) u)
 
 abbrev μ-loop : tie.MeasureT-loop
-μ-loop counts largest bound queue all₀ u₀ all u = bound - u
+μ-loop counts largest bound queue before₀ u₀ before u = bound - u
 
 loop-holds : tie.Need-loop-holds Inv-loop μ-loop
 unfolding sum
@@ -26,8 +23,8 @@ loop-holds c = (omega arith, refl)
 earlier-requires : tie.Need-earlier-requires Inv-loop μ-loop
 earlier-requires c κs = (c .before .before .pre .0, c .loop-test .taken, c .before .before .pre .1)
 
-add-all : tie.Need-add-all Inv-loop μ-loop
-add-all c =
+add-before : tie.Need-add-before Inv-loop μ-loop
+add-before c =
     let given = c .before .before .before in
     omega (
       arith,
@@ -66,7 +63,7 @@ number-spec =
     μ-loop
     loop-holds
     earlier-requires
-    add-all
+    add-before
     add-u
     loop-less
     loop-again

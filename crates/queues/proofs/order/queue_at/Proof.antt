@@ -4,15 +4,12 @@ use native.Mathlib.Omega.{arith}
 use Rattle.queues.proofs.Finding.{Fixing, fixing-begins, fixing-leads, fixing-goes-on, fixing-ends}
 use Rattle.queues.proofs.order.queue_at.Statement.{statement}
 use Rattle.queues.proofs.order.queue_at.Tie as tie
-use Rattle.queues.proofs.order.queue_at.Reads as reads
-use Rattle.queues.proofs.order.queue_at.Lts as lts
-use Rattle.queues.proofs.order.next_total.Reads as next-total-reads
 
 abbrev Inv-loop : tie.InvT-loop
-Inv-loop counts largest bound number queue₀ found₀ u₀ queue found u = Fixing largest bound number queue (found .total) (found .slack) (found .place) u
+Inv-loop counts largest bound number queue₀ found₀ fixed₀ queue found fixed = Fixing largest bound number queue (found .total) (found .slack) (found .place) fixed
 
 abbrev μ-loop : tie.MeasureT-loop
-μ-loop counts largest bound number queue₀ found₀ u₀ queue found u = bound - u
+μ-loop counts largest bound number queue₀ found₀ fixed₀ queue found fixed = bound - fixed
 
 loop-holds : tie.Need-loop-holds Inv-loop μ-loop
 loop-holds c = fixing-begins (c .args .largest) (c .args .bound) (c .args .number) (c .pre .2)
@@ -32,8 +29,8 @@ mul-queue c = omega arith
 array-write-queue : tie.Need-array-write-queue Inv-loop μ-loop
 array-write-queue c = omega arith
 
-add-u : tie.Need-add-u Inv-loop μ-loop
-add-u c = omega arith
+add-fixed : tie.Need-add-fixed Inv-loop μ-loop
+add-fixed c = omega arith
 
 loop-less : tie.Need-loop-less Inv-loop μ-loop
 loop-less c = omega arith
@@ -57,7 +54,7 @@ queue-at-spec =
     next-total-requires
     mul-queue
     array-write-queue
-    add-u
+    add-fixed
     loop-less
     loop-again
     returns)

@@ -4,9 +4,6 @@ use Rattle.queues.proofs.Numbering.{queues-none, queues-needed, queues-
 use borrow.Author.Needs.{needs}
 use Rattle.queues.proofs.order.queue_count.Statement.{statement}
 use Rattle.queues.proofs.order.queue_count.Tie as tie
-use Rattle.queues.proofs.order.queue_count.Reads as reads
-use Rattle.queues.proofs.order.queue_count.Lts as lts
-use Rattle.queues.proofs.order.sum_of_counts.Reads as sum-of-counts-reads
 
 returns : tie.Need-returns
 returns c = queues-none (c .before .args .largest) (c .before .args .bound) (c .if1 .taken)

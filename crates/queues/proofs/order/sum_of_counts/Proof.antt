@@ -8,9 +8,6 @@ use Rattle.model.specs.Queue.{continuationCount}
 use Rattle.queues.proofs.Bounds.{slack-small, count-small, counts-small}
 use Rattle.queues.proofs.order.sum_of_counts.Statement.{statement}
 use Rattle.queues.proofs.order.sum_of_counts.Tie as tie
-use Rattle.queues.proofs.order.sum_of_counts.Reads as reads
-use Rattle.queues.proofs.order.sum_of_counts.Lts as lts
-use Rattle.queues.proofs.counts.count.Reads as count-reads
 
 abbrev Inv-loop : tie.InvT-loop
 Inv-loop counts largest left slack n all₀ j₀ all j = (j ≤ n) × (all ≡ sum (λ i. continuationCount largest left (slack + i)) j)

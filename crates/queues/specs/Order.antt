@@ -1,4 +1,5 @@
--- What the functions over queues ask for, and the sums of counts that a number is made of.
+-- Dictionary order: which queues have a number, the sums of counts that a number is made of, and the search that leads from a number to
+-- its queue.
 use Prim.Native.Nat.{ℕ, suc, _+_, _*_, _-_, _≤_, _<_}
 use mathlib.Core.Path.{_≡_}
 use mathlib.Core.List.{List, [], _∷_}
@@ -17,10 +18,6 @@ pub record Ranges (M D : ℕ) : Type 0 where
 pub record Numbered (M D : ℕ) (places : List ℕ) : Type 0 where
   pub ranges : Ranges M D
   pub is-bearable : T (bearable M (queueIn D places))
-
--- no total is above 48, which is 6 times 8
-abbrev pub Small : Queue → Type 0
-Small w = (u : ℕ) → total w u ≤ 48
 
 -- how many bearable queues agree with w up to w(u) and have less at w(u+1). Their totals there are those from w(u) to w(u+1) - 1, so that
 -- their slacks are as many, from the one above w's own on
