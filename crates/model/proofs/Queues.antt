@@ -3,7 +3,7 @@
 -- dictionary order, and so that a queue's number is its place. Elsewhere these laws are used, and not the definitions' text.
 use Prim.Native.Nat.{ℕ, zero, suc, _+_, _*_, _-_, min, _≤_, _<_, zero-le}
 use mathlib.Core.Path.{_≡_, refl, sym, ap, _∙_, subst, subst₂}
-use mathlib.Core.Bool.{Bool, true, false, cond, _&&_}
+use mathlib.Core.Bool.{Bool, true, false, cond}
 use mathlib.Core.List.{List, [], _∷_, _++_, map, List·Memᴰ, List·Memᴰ·head, List·Memᴰ·not-nil, List·Memᴰ·cases-cons, Memᴰ·append-left, Memᴰ·append-right, Memᴰ·map}
 use mathlib.Core.Logic.{⊎-elim, _⊎_, inl, inr}
 use native.Mathlib.Nat.{zero-add, le-of-suc-le-suc, le-refl, not-suc-le-zero, eq-or-lt-of-le, lt-irrefl, zero-lt-suc}
@@ -14,7 +14,7 @@ use lib.ListN.{length, getD, length-append, length-map, List·getD-eq-default}
 use Rattle.process.specs.Sums.{sum, same}
 use Rattle.process.proofs.Sums.{same-refl, same-true}
 use Rattle.model.specs.Tests.{listed}
-use Rattle.model.specs.Queue.{Queue, total, totals, emptyQueue, positions, queueIn, bearable, bearableIn, run, arrive, eachTotal, continuations, bearableQueues, queueCount, placeIn, numberOf, continuationCount}
+use Rattle.model.specs.Queue.{Queue, total, totals, emptyQueue, positions, queueIn, bearableAt, bearable, unusedAt, bearableIn, run, arrive, eachTotal, continuations, bearableQueues, queueCount, placeIn, numberOf, continuationCount}
 use Rattle.model.proofs.Tests.{check-passes, and-left, and-right, and-both, everywhere-at, everywhere-all, length-listed, getD-listed}
 
 -- a queue by its totals
@@ -62,7 +62,7 @@ unfolding bearable
 bearable-at M w t i h =
     let a = leb (total w i) (total w (suc i)) in
     let b = leb (total w (suc i)) (suc i * M) in
-    let both = everywhere-at (λ j. leb (total w j) (total w (suc j)) && leb (total w (suc j)) (suc j * M)) (length w) t i h in
+    let both = everywhere-at (bearableAt M w) (length w) t i h in
     (leb→le (total w i) (total w (suc i)) (and-left a b both), leb→le (total w (suc i)) (suc i * M) (and-right a b both))
 
 -- its total at u is at most u * M, for u from 0 on
@@ -75,7 +75,7 @@ pub bearable-all : (M : ℕ) (w : Queue) → ((i : ℕ) → i < length w → (to
     T (bearable M w)
 unfolding bearable
 bearable-all M w all =
-    everywhere-all (λ j. leb (total w j) (total w (suc j)) && leb (total w (suc j)) (suc j * M)) (length w)
+    everywhere-all (bearableAt M w) (length w)
     (λ i h. and-both (leb (total w i) (total w (suc i))) (leb (total w (suc i)) (suc i * M))
     (le→leb (total w i) (total w (suc i)) (all i h .0)) (le→leb (total w (suc i)) (suc i * M) (all i h .1)))
 
@@ -92,7 +92,7 @@ held-zero M D places t i h l =
     let same : D + (i - D) ≡ i = omega arith in
     eqb→eq (getD places i 0) 0
     (subst (λ (k : ℕ). T (eqb (getD places k 0) 0)) same
-    (everywhere-at (λ j. eqb (getD places (D + j) 0) 0) (positions - D) zeros (i - D) (omega arith)))
+    (everywhere-at (unusedAt D places) (positions - D) zeros (i - D) (omega arith)))
 
 -- how many there are
 

@@ -32,9 +32,13 @@ NeverFalls w = (u : ℕ) → u < length w → total w u ≤ total w (suc u)
 abbrev pub NoLonger : Queue → Queue → Type 0
 NoLonger v w = (u : ℕ) → total v u ≤ total w u
 
+-- at the position after u: "never falling", and at most so many times M
+abbrev pub bearableAt : ℕ → Queue → ℕ → Bool
+bearableAt M w u = leb (total w u) (total w (suc u)) && leb (total w (suc u)) (suc u * M)
+
 -- "It is bearable (finishable) when w(u) is at most u times M for each u", and a queue never falls
 unfoldable pub bearable : ℕ → Queue → Bool
-bearable M w = everywhere (λ i. leb (total w i) (total w (suc i)) && leb (total w (suc i)) (suc i * M)) (length w)
+bearable M w = everywhere (bearableAt M w) (length w)
 
 -- in memory a queue stands in six places: "Positions past D are unused and zero"
 
@@ -49,10 +53,18 @@ queueIn D places = take D places
 abbrev pub placesOf : Queue → List ℕ
 placesOf w = padded positions 0 w
 
+-- the place i past the first D is zero
+abbrev pub unusedAt : ℕ → List ℕ → ℕ → Bool
+unusedAt D places i = eqb (getD places (D + i) 0) 0
+
+-- all of them are
+abbrev pub unusedZero : ℕ → List ℕ → Bool
+unusedZero D places = everywhere (unusedAt D places) (positions - D)
+
 -- of 13: what stands in the places is a bearable queue of D positions, unless "the queue falls or is not bearable, an unused position is
 -- not zero"
 unfoldable pub bearableIn : ℕ → ℕ → List ℕ → Bool
-bearableIn M D places = bearable M (queueIn D places) && everywhere (λ i. eqb (getD places (D + i) 0) 0) (positions - D)
+bearableIn M D places = bearable M (queueIn D places) && unusedZero D places
 
 -- "One slot at speed s ..: first w'(u) = w(u+1) - s, or 0 if that is negative, with w(D) standing for w(D+1)"
 unfoldable pub run : Queue → ℕ → Queue

@@ -11,7 +11,7 @@ use lib.Dec.{leb, ltb, eqb}
 use lib.ListN.{length, getD, replicate, length-append, length-take, length-replicate}
 use lib.Seq.{length-take-le, getD-take, take-take, take-append-seam, ext-getD}
 use Rattle.model.specs.Tests.{everywhere}
-use Rattle.model.specs.Queue.{Queue, total, queueIn, placesOf, bearable, bearableIn, run, arrive}
+use Rattle.model.specs.Queue.{Queue, total, queueIn, placesOf, bearableAt, bearable, unusedAt, unusedZero, bearableIn, run, arrive}
 use Rattle.model.proofs.Tests.{everywhere-fails, everywhere-more, everywhere-same}
 use Rattle.model.proofs.Queues.{total-past, length-run, length-arrive, total-run, total-arrive}
 use Rattle.queues.specs.Slot.{Small}
@@ -150,27 +150,22 @@ with-from D places c d place long h due = with-in D places c d place true long h
 
 -- the tests for bearable, from place to place
 
--- the test of a bearable queue at one place: no less than before, and at most so many times the largest speed
-abbrev pub bearableAt : ℕ → List ℕ → ℕ → Bool
-bearableAt M places u = leb (total places u) (total places (u + 1)) && leb (total places (u + 1)) ((u + 1) * M)
-
 -- where a place has less than the one before, the test fails
 pub falls-at : (M : ℕ) (places : List ℕ) (u : ℕ) → getD places u 0 < total places u → bearableAt M places u ≡ false
-falls-at M places u h = rw (add-one, lt-leb (total places u) (getD places u 0) h)
+falls-at M places u h = rw (lt-leb (total places u) (getD places u 0) h)
 
 -- elsewhere the bound alone is tested
 pub bound-at : (M : ℕ) (places : List ℕ) (u : ℕ) → total places u ≤ getD places u 0 →
     bearableAt M places u ≡ leb (getD places u 0) ((u + 1) * M)
-bound-at M places u h = rw (add-one, le-leb (total places u) (getD places u 0) h)
+bound-at M places u h = rw (le-leb (total places u) (getD places u 0) h, add-one)
 
 -- the queue in the first D places is bearable where that test holds in each of them
 pub bearable-in : (M D : ℕ) (places : List ℕ) → D ≤ length places → bearable M (queueIn D places) ≡ everywhere (bearableAt M places) D
 unfolding bearable
 bearable-in M D places long =
     let w = queueIn D places in
-    let test : ℕ → Bool = λ i. leb (total w i) (total w (suc i)) && leb (total w (suc i)) (suc i * M) in
-    ap (everywhere test) (length-in D places long) ∙ everywhere-same test (bearableAt M places) D
-    (λ i h. rw (add-one, total-in D places i (omega arith), total-in D places (suc i) h))
+    ap (everywhere (bearableAt M w)) (length-in D places long) ∙ everywhere-same (bearableAt M w) (bearableAt M places) D
+    (λ i h. rw (total-in D places i (omega arith), total-in D places (suc i) h))
 
 -- where the test is asked at one of them and fails, it is not bearable
 pub bearable-fails : (M D : ℕ) (places : List ℕ) (u : ℕ) (asked : Bool) → D ≤ length places → u < D → asked ≡ bearableAt M places u →
@@ -182,10 +177,6 @@ bearable-fails M D places u asked long h e failed =
 pub bearable-more : (M : ℕ) (places : List ℕ) (u : ℕ) (asked : Bool) → everywhere (bearableAt M places) u ≡ true →
     asked ≡ bearableAt M places u → not asked ≡ false → everywhere (bearableAt M places) (u + 1) ≡ true
 bearable-more M places u asked below e held = everywhere-more (bearableAt M places) u below (sym e ∙ not-false asked held)
-
--- the test that the place D + i, past the first D, is zero
-abbrev pub unusedAt : ℕ → List ℕ → ℕ → Bool
-unusedAt D places i = eqb (getD places (D + i) 0) 0
 
 -- counted from D on, the test at a place is whether this place is zero
 unused-at : (D : ℕ) (places : List ℕ) (place : ℕ) → D ≤ place → unusedAt D places (place - D) ≡ eqb (getD places place 0) 0
@@ -206,13 +197,13 @@ unused-more D places place h below here =
 
 -- where a place past D is not zero, not all of them are
 pub unused-fails : (D : ℕ) (places : List ℕ) (place : ℕ) → D ≤ place → place < 6 → (getD places place 0 ≡ 0 → ⊥) →
-    everywhere (unusedAt D places) (6 - D) ≡ false
+    unusedZero D places ≡ false
 unused-fails D places place h l here =
     everywhere-fails (unusedAt D places) (6 - D) (place - D) (omega arith)
     (unused-at D places place h ∙ ne-eqb (getD places place 0) 0 here)
 
 -- the places hold a bearable queue where the queue in the first D is bearable, as was asked, and the unused places are zero
 pub bearable-unused : (M D : ℕ) (places : List ℕ) (b : Bool) → bearable M (queueIn D places) ≡ b →
-    bearableIn M D places ≡ (b && everywhere (unusedAt D places) (6 - D))
+    bearableIn M D places ≡ (b && unusedZero D places)
 unfolding bearableIn
-bearable-unused M D places b e = ap (λ t. t && everywhere (unusedAt D places) (6 - D)) e
+bearable-unused M D places b e = ap (λ t. t && unusedZero D places) e

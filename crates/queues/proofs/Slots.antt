@@ -5,6 +5,7 @@ use mathlib.Core.Path.{_≡_, refl, sym, ap, _∙_}
 use mathlib.Core.Bool.{Bool, true, false}
 use mathlib.Core.List.{[], _∷_, _++_}
 use native.Mathlib.Nat.{le-refl, suc-mul}
+use native.Mathlib.Numerals.{add-one}
 use native.Mathlib.Omega.{arith}
 use borrow.Author.Tests.{ltb-true, ltb-false}
 use lib.Dec.{T, ltb}
@@ -20,7 +21,7 @@ use Rattle.queues.proofs.Places.{length-in, total-in}
 
 -- it has one position more
 pub length-kept : (v : Queue) → length (kept v) ≡ suc (length v)
-length-kept v = omega (arith, length-append v (total v (length v) ∷ []))
+length-kept v = length-append v _ ∙ add-one (length v)
 
 -- its totals up to the old last one are the old ones
 pub total-kept : (v : Queue) (u : ℕ) → u ≤ length v → total (kept v) u ≡ total v u

@@ -1,11 +1,7 @@
 // One slot: the queue after it, the queue with an arrival, and whether a queue is bearable.
 ghost use mathlib.Core.Path.{_≡_};
-ghost use mathlib.Core.Bool.{_&&_};
 ghost use Prim.Native.Nat.{_+_, _-_, _*_, _≤_, _<_};
-ghost use lib.Dec.{leb, eqb};
-ghost use lib.ListN.{getD};
-ghost use Rattle.model.specs.Tests.{everywhere};
-ghost use Rattle.model.specs.Queue.{total, queueIn, placesOf, bearable, bearableIn, run, arrive};
+ghost use Rattle.model.specs.Queue.{total, queueIn, placesOf, bearableAt, bearable, unusedZero, bearableIn, run, arrive};
 ghost use Rattle.queues.specs.Slot.{Small};
 
 // w(u); w(0), the work that should be done by now, is 0.
@@ -90,7 +86,7 @@ pub fn arrive(bound: usize, queue: [u32; 6], size: u32, deadline: u32) -> [u32; 
 // Whether w(u+1) is no less than w(u) and at most u+1 times the largest speed.
 fn bearable_at(largest: u32, queue: [u32; 6], u: usize) -> bool
     requires { ⌜ (largest ≤ 8) × (u < 6) ⌝ }
-    ensures { λ r. ⌜ r ≡ (leb (total queue u) (total queue (u + 1)) && leb (total queue (u + 1)) ((u + 1) * largest)) ⌝ }
+    ensures { λ r. ⌜ r ≡ bearableAt largest queue u ⌝ }
 {
     let here = queue[u];
     if here < total(queue, u) {
@@ -117,7 +113,7 @@ pub fn finishable(largest: u32, bound: usize, queue: [u32; 6]) -> bool
 // Whether every place past the first ones is zero.
 fn unused_zero(bound: usize, queue: [u32; 6]) -> bool
     requires { ⌜ bound ≤ 6 ⌝ }
-    ensures { λ r. ⌜ r ≡ everywhere (λ i. eqb (getD queue (bound + i) 0) 0) (6 - bound) ⌝ }
+    ensures { λ r. ⌜ r ≡ unusedZero bound queue ⌝ }
 {
     let mut place = bound;
     while place < 6 {

@@ -4,7 +4,8 @@ use mathlib.Core.Path.{_≡_, refl, sym, ap, _∙_}
 use mathlib.Core.Bool.{true}
 use native.Mathlib.Omega.{arith}
 use Rattle.model.specs.Tests.{everywhere}
-use Rattle.queues.proofs.Places.{bearableAt, bearable-in, bearable-fails, bearable-more}
+use Rattle.model.specs.Queue.{bearableAt}
+use Rattle.queues.proofs.Places.{bearable-in, bearable-fails, bearable-more}
 use Rattle.queues.proofs.slot.finishable.Statement.{statement}
 use Rattle.queues.proofs.slot.finishable.Tie as tie
 

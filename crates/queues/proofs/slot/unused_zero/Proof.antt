@@ -4,7 +4,8 @@ use mathlib.Core.Path.{_≡_, sym, ap, _∙_}
 use mathlib.Core.Bool.{true}
 use native.Mathlib.Omega.{arith}
 use Rattle.model.specs.Tests.{everywhere}
-use Rattle.queues.proofs.Places.{unusedAt, unused-none, unused-more, unused-fails}
+use Rattle.model.specs.Queue.{unusedAt}
+use Rattle.queues.proofs.Places.{unused-none, unused-more, unused-fails}
 use Rattle.queues.proofs.slot.unused_zero.Statement.{statement}
 use Rattle.queues.proofs.slot.unused_zero.Tie as tie
 
