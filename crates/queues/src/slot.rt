@@ -1,6 +1,6 @@
 // One slot: the queue after it, the queue with an arrival, and whether a queue is bearable.
 ghost use mathlib.Core.Path.{_≡_};
-ghost use Prim.Native.Nat.{_+_, _-_, _*_, _≤_, _<_};
+ghost use Prim.Native.Nat.{_+_, _-_, _≤_, _<_};
 ghost use Rattle.model.specs.Queue.{total, queueIn, placesOf, bearableAt, bearable, unusedZero, bearableIn, run, arrive};
 ghost use Rattle.queues.specs.Slot.{Small};
 
