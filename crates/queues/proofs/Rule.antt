@@ -1,14 +1,14 @@
 -- The rule of the table of counts: one test, which the checker computes over the whole table, and one lemma, which turns it into the rule
 -- at each place.
-use Prim.Native.Nat.{ℕ, zero, suc, _+_, _*_, _-_, _≤_, _<_}
-use mathlib.Core.Path.{_≡_, sym, ap, _∙_}
-use mathlib.Core.Bool.{Bool, cond}
+use Prim.Native.Nat.{ℕ, zero, suc, _+_, _*_, _-_, _/_, _%_, _≤_, _<_}
+use mathlib.Core.Path.{_≡_, refl, sym, ap, _∙_, subst}
+use mathlib.Core.Bool.{Bool, true, false, cond}
 use mathlib.Core.List.{List}
 use native.Mathlib.Omega.{arith}
-use borrow.Author.Tests.{le-leb, lt-leb}
+use borrow.Author.Tests.{le-leb, lt-leb, leb-true, leb-false}
 use lib.Dec.{T, leb, eqb, eqb→eq}
 use lib.ListN.{length, getD, take, drop}
-use lib.Seq.{getD-take, getD-drop}
+use lib.Seq.{getD-take, getD-drop, ext-getD}
 use Rattle.process.specs.Sums.{sum}
 use Rattle.process.proofs.Sums.{sum-same}
 use Rattle.model.specs.Tests.{everywhere}
@@ -83,3 +83,24 @@ ruled-holds table places t =
       unneeded = λ M r g low high left far small.
           place-ruled table t M r g low high left small ∙ ap (λ (b : Bool). cond b (rule table M r g) 0) (lt-leb g ((6 - r) * M) far);
     }
+
+-- there is one such table
+pub counts-unique : (a b : List ℕ) → HoldsCounts a → HoldsCounts b → a ≡ b
+counts-unique a b p q = ext-getD 0 a b (p .places ∙ sym (q .places)) (λ k h. at k (omega (arith, p .places)))
+  where
+    at : (k : ℕ) → k < 2352 → getD a k 0 ≡ getD b k 0
+    at k h =
+        let M = k / 294 + 1 in
+        let r = k % 294 / 49 in
+        let g = k % 294 % 49 in
+        let here : tablePlace M r g ≡ k = omega arith in
+        subst (λ (i : ℕ). getD a i 0 ≡ getD b i 0) here (each M r g (omega arith) (omega arith) (omega arith) (omega arith) (leb g ((6 - r) * M)) refl)
+      where
+        each : (M r g : ℕ) → 1 ≤ M → M ≤ 8 → r ≤ 5 → g ≤ 48 → (t : Bool) → leb g ((6 - r) * M) ≡ t →
+            getD a (tablePlace M r g) 0 ≡ getD b (tablePlace M r g) 0
+        each M r g low high left small true e =
+            let i : InTable M r g = record { speed-low = low; speed-high = high; left-high = left; slack-high = leb-true g ((6 - r) * M) e } in
+            p .needed M r g i ∙ sym (q .needed M r g i)
+        each M r g low high left small false e =
+            let far = leb-false g ((6 - r) * M) e in
+            p .unneeded M r g low high left far small ∙ sym (q .unneeded M r g low high left far small)
