@@ -72,7 +72,7 @@ struct Found {
     place: usize,
 }
 
-// The next total: of those that may come next the last whose queues do not all stand before the place.
+// The next total: of those that may come next the first whose queues do not all stand before the place.
 fn next_total(counts: &[u32; 2352], largest: u32, left: usize, found: Found) -> Found
     requires { ⌜ HoldsCounts (now counts) × Leads largest (suc left) (found .total) (found .slack) (found .place) ⌝ }
     ensures { λ r. ⌜ Follows largest left (found .total) (found .slack) (found .place) (r .total) (r .slack) (r .place) ⌝ }
