@@ -1,20 +1,21 @@
 -- What a slot at a speed of at least w(1) leaves of a queue: its last total stands twice, so that the positions before the last one tell
--- the whole queue and whether it is bearable. And an arrival makes no queue bearable. The planner's steps stand on these laws.
-use Prim.Native.Nat.{ℕ, zero, suc, _*_, _-_, min, _≤_, _<_}
+-- the whole queue and whether it is bearable. And an arrival makes no queue bearable; and the totals of a bearable queue, and of what a
+-- slot leaves of it, are small enough to be added to. The planner's and the stepper's steps stand on these laws.
+use Prim.Native.Nat.{ℕ, zero, suc, _*_, _-_, min, _≤_, _<_, zero-le}
 use mathlib.Core.Path.{_≡_, refl, sym, ap, _∙_}
 use mathlib.Core.Bool.{Bool, true, false}
 use mathlib.Core.List.{[], _∷_, _++_}
-use native.Mathlib.Nat.{le-refl, suc-mul}
+use native.Mathlib.Nat.{le-refl, suc-mul, mul-le-mul}
 use native.Mathlib.Numerals.{add-one}
 use native.Mathlib.Omega.{arith}
-use borrow.Author.Tests.{ltb-true, ltb-false}
-use lib.Dec.{T, ltb}
+use borrow.Author.Tests.{ltb-true, ltb-false, leb-true, leb-false}
+use lib.Dec.{T, leb, ltb}
 use lib.ListN.{length, length-append, List·getD-append}
 use lib.Seq.{take-suc, take-all, getD-append-seam}
 use Rattle.model.specs.Queue.{Queue, total, NeverFalls, queueIn, bearable, run, arrive}
-use Rattle.model.proofs.Queues.{length-run, length-arrive, total-run, total-arrive, bearable-at, bearable-all, bearable-upto}
+use Rattle.model.proofs.Queues.{total-past, length-run, length-arrive, total-run, total-arrive, bearable-at, bearable-all, bearable-upto}
 use Rattle.model.proofs.Tests.{same-test}
-use Rattle.queues.specs.Slot.{kept}
+use Rattle.queues.specs.Slot.{Small, kept}
 use Rattle.queues.proofs.Places.{length-in, total-in}
 
 -- a queue whose last total stands once more (specs/Slot.antt)
@@ -91,3 +92,26 @@ arrive-not-bearable M w c d rises t =
         bearable-at M (arrive w c d) t i (omega (arith, length-arrive w c d)) .1,
       ),
     ))
+
+-- no total of a bearable queue is above 48, so that a job can be added to it
+pub bearable-small : (M : ℕ) (w : Queue) → M ≤ 8 → length w ≤ 6 → T (bearable M w) → Small w
+bearable-small M w high few t u = go (leb u (length w)) refl
+  where
+    go : (b : Bool) → leb u (length w) ≡ b → total w u ≤ 48
+    go true e =
+        let within : u ≤ length w = leb-true u (length w) e in
+        let short : u ≤ 6 = omega arith in
+        omega (arith, bearable-upto M w t u within, mul-le-mul short high)
+    go false e = omega (arith, total-past w u (leb-false u (length w) e))
+
+-- nor is one after a slot above 48 where none was
+pub run-small : (w : Queue) (s : ℕ) → Small w → Small (run w s)
+run-small w s small zero = zero-le
+run-small w s small (suc i) = go (leb (suc i) (length w)) refl
+  where
+    go : (b : Bool) → leb (suc i) (length w) ≡ b → total (run w s) (suc i) ≤ 48
+    go true e =
+        let next = min (suc (suc i)) (length w) in
+        omega (arith, total-run w s (suc i) (omega arith) (leb-true (suc i) (length w) e), small next)
+    go false e =
+        omega (arith, total-past (run w s) (suc i) (omega (arith, leb-false (suc i) (length w) e, length-run w s)))
