@@ -17,7 +17,7 @@ wider M r h = let more : 6 - r ≡ suc (6 - suc r) = omega arith in ap (λ k. k 
 pub slack-small : (M r g : ℕ) → M ≤ 8 → g ≤ (6 - r) * M → g ≤ 48
 slack-small M r g high h = let few : 6 - r ≤ 6 = omega arith in omega (arith, mul-le-mul few high)
 
--- each position has at most 49 slacks
+-- a count with r positions left is at most 49 ^ r, since each position has at most 49 slacks
 pub count-few : (M r g : ℕ) → M ≤ 8 → r ≤ 6 → g ≤ (6 - r) * M → continuationCount M r g ≤ 49 ^ r
 unfolding continuationCount
 count-few M zero g high left h = le-refl 1
@@ -27,12 +27,12 @@ count-few M (suc r) g high left h =
     let slacks : suc (g + M) ≤ 49 = omega (arith, slack-small M r (g + M) high (omega (arith, wider M r left))) in
     omega (arith, each, mul-le-mul-right (49 ^ r) slacks, pow-suc 49 r)
 
--- a count that is needed has at most five positions to fill
+-- a count of the table has at most five positions left
 pub count-small : (M r g : ℕ) → InTable M r g → continuationCount M r g ≤ 49 ^ 5
 count-small M r g i =
     le-trans (count-few M r g (i .speed-high) (omega arith) (i .slack-high)) (pow-le-pow-right (zero-lt-suc 48) (i .left-high))
 
--- nor does their sum pass what that allows
+-- the sum of j of them
 pub counts-small : (M r g n : ℕ) → ((j : ℕ) → j < n → InTable M r (g + j)) → (j : ℕ) → j ≤ n →
     sum (λ i. continuationCount M r (g + i)) j ≤ j * 49 ^ 5
 counts-small M r g n needed j h = sum-upto j (49 ^ 5) (λ i l. count-small M r (g + i) (needed i (omega arith)))

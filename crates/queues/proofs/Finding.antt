@@ -55,10 +55,10 @@ search-begins {t = t} l = record { same-queue = refl; same-sum = refl; total-low
 pub search-needed : {M r t g p t₁ g₁ p₁ : ℕ} → Leads M (suc r) t g p → Searching M r t (g + M) p t₁ g₁ p₁ → InTable M r g₁
 search-needed {M} {r} l s =
     record {
-      speed-low = l .speed-low;
-      speed-high = l .speed-high;
-      left-high = omega (arith, l .left-high);
-      slack-high = omega (arith, l .slack-high, s .same-sum, s .total-low, wider M r (l .left-high));
+      speed-low = l .ranges .speed-low;
+      speed-high = l .ranges .speed-high;
+      left-high = omega (arith, l .ranges .bound-high);
+      slack-high = omega (arith, l .slack-high, s .same-sum, s .total-low, wider M r (l .ranges .bound-high));
     }
 
 -- it goes on where all queues with this total stand before the place, and then there is a larger total
@@ -124,9 +124,7 @@ fixing-leads {M} {D} {g = g} {u = u} n f h =
     let room : u ≤ 6 - suc (D - 1 - u) = omega (arith, n .bound-high) in
     let few : u ≤ 6 = omega (arith, n .bound-high) in
     record {
-      speed-low = n .speed-low;
-      speed-high = n .speed-high;
-      left-high = omega (arith, n .bound-high);
+      ranges = record { speed-low = n .speed-low; speed-high = n .speed-high; bound-high = omega (arith, n .bound-high) };
       slack-high = omega (arith, f .same-sum, mul-le-mul-right M room);
       total-high = omega (arith, f .same-sum, mul-le-mul few (n .speed-high));
       place-low = omega (arith, f .place-low, ap (λ (r : ℕ). continuationCount M r g) left);
@@ -165,4 +163,4 @@ fixing-ends {M} {D} {places = places} {t} {g} {p} {u} f h =
     sym
     (ap placesOf
     (f .same-queue ∙ ap (λ (q : Queue). take u places ++ q) rest ∙ (append-nil (take u places) ∙ ap (λ (k : ℕ). take k places) all)) ∙
-    places-in D places (f .six) (λ i l. f .unused i (omega arith)))
+    places-in D places (f .six) (λ i l k. f .unused i (omega arith)))

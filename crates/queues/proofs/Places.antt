@@ -83,15 +83,16 @@ pub in-places : (w : Queue) → length w ≤ 6 → queueIn (length w) (placesOf 
 in-places w h = take-take (length w) 6 (w ++ replicate 6 0) h ∙ take-append-seam w (replicate 6 0)
 
 -- the places of the queue in the first D of six places are these places, where the ones past D are zero
-pub places-in : (D : ℕ) (places : List ℕ) → length places ≡ 6 → ((i : ℕ) → D ≤ i → getD places i 0 ≡ 0) →
+pub places-in : (D : ℕ) (places : List ℕ) → length places ≡ 6 → ((i : ℕ) → D ≤ i → i < 6 → getD places i 0 ≡ 0) →
     placesOf (queueIn D places) ≡ places
 places-in D places six unused =
     ext-getD 0 (placesOf (queueIn D places)) places (length-places (queueIn D places) ∙ sym six)
-    (λ i h. total-places (queueIn D places) (suc i) (omega (arith, length-places (queueIn D places))) ∙ each i (ltb i D) refl)
+    (λ i h. let l : i < 6 = omega (arith, length-places (queueIn D places)) in
+    total-places (queueIn D places) (suc i) l ∙ each i l (ltb i D) refl)
   where
-    each : (i : ℕ) (b : Bool) → ltb i D ≡ b → total (queueIn D places) (suc i) ≡ getD places i 0
-    each i true e = total-in D places (suc i) (ltb-true i D e)
-    each i false e = total-in-past D places (suc i) (omega (arith, ltb-false i D e)) ∙ sym (unused i (ltb-false i D e))
+    each : (i : ℕ) → i < 6 → (b : Bool) → ltb i D ≡ b → total (queueIn D places) (suc i) ≡ getD places i 0
+    each i l true e = total-in D places (suc i) (ltb-true i D e)
+    each i l false e = total-in-past D places (suc i) (omega (arith, ltb-false i D e)) ∙ sym (unused i (ltb-false i D e) l)
 
 -- the total in a place after a slot
 

@@ -1,5 +1,5 @@
--- The number of a queue and the queue of a number undo each other, in the six places that a queue stands in; and numbers rise in
--- dictionary order. What callers need to know of `number` and `queue_at` together.
+-- The number of a queue and the queue of a number undo each other, in the six places that a queue stands in: what callers need to know of
+-- `number` and `queue_at` together.
 use Prim.Native.Nat.{ℕ, _≤_, _<_}
 use mathlib.Core.Path.{_≡_, sym, ap, _∙_, subst}
 use mathlib.Core.List.{List, []}
@@ -29,7 +29,7 @@ module _ (M D : ℕ) (places : List ℕ) (six : length places ≡ 6) (n : Number
       number-place M (queueIn D places) (n .is-bearable)
 
   -- and so it stands in these places, where the unused ones are zero
-  pub places-of-number : ((i : ℕ) → D ≤ i → getD places i 0 ≡ 0) →
+  pub places-of-number : ((i : ℕ) → D ≤ i → i < 6 → getD places i 0 ≡ 0) →
       placesOf (getD (bearableQueues M D) (numberOf M (queueIn D places)) []) ≡ places
   places-of-number unused = ap placesOf queue-of-number ∙ places-in D places six unused
 

@@ -27,7 +27,7 @@ length-kept v = length-append v _ ∙ add-one (length v)
 -- its totals up to the old last one are the old ones
 pub total-kept : (v : Queue) (u : ℕ) → u ≤ length v → total (kept v) u ≡ total v u
 total-kept v zero h = refl
-total-kept v (suc i) h = List·getD-append v (total v (length v) ∷ []) 0 i h
+total-kept v (suc i) h = List·getD-append v _ 0 i h
 
 -- its last total is the old last one
 pub last-kept : (v : Queue) → total (kept v) (suc (length v)) ≡ total v (length v)

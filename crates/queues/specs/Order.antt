@@ -8,7 +8,7 @@ use lib.ListN.{length, getD}
 use Rattle.process.specs.Sums.{sum}
 use Rattle.model.specs.Queue.{Queue, total, bearable, queueIn, continuations, continuationCount}
 
--- the largest speed and the deadline bound of an accepted sheet, or a bound smaller by one
+-- the largest speed of an accepted sheet, and a number of positions: its deadline bound or fewer
 pub record Ranges (M D : ℕ) : Type 0 where
   pub speed-low : 1 ≤ M
   pub speed-high : M ≤ 8
@@ -19,8 +19,8 @@ pub record Numbered (M D : ℕ) (places : List ℕ) : Type 0 where
   pub ranges : Ranges M D
   pub is-bearable : T (bearable M (queueIn D places))
 
--- how many bearable queues agree with w up to w(u) and have less at w(u+1). Their totals there are those from w(u) to w(u+1) - 1, so that
--- their slacks are as many, from the one above w's own on
+-- what comes before w at w(u+1): the counts of those that agree with w up to w(u) and have less there. Their totals there are w(u) to
+-- w(u+1) - 1, so that their slacks are as many, from the one above w's own on. That a number is the sum of these is `number-sum`
 unfoldable pub earlierAt : ℕ → Queue → ℕ → ℕ
 earlierAt M w u =
     sum (λ j. continuationCount M (length w - suc u) (suc (suc u * M - total w (suc u)) + j)) (total w (suc u) - total w u)
@@ -29,11 +29,9 @@ earlierAt M w u =
 abbrev pub following : ℕ → ℕ → ℕ → ℕ → ℕ → Queue
 following M r total slack place = getD (continuations M r total slack) place []
 
--- a place in that list, of at most six positions
+-- a place in that list
 pub record Leads (M r total slack place : ℕ) : Type 0 where
-  pub speed-low : 1 ≤ M
-  pub speed-high : M ≤ 8
-  pub left-high : r ≤ 6
+  pub ranges : Ranges M r
   pub slack-high : slack ≤ (6 - r) * M
   pub total-high : total + slack ≤ 48
   pub place-low : place < continuationCount M r slack

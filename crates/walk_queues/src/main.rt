@@ -63,7 +63,7 @@ fn next(largest: u32, bound: usize, queue: [u32; 6]) -> [u32; 6]
     totals
 }
 
-// All lists of totals, of which there are fewer than a million.
+// All lists of totals, or a million of them: the sizes below have fewer.
 fn walk(counts: &[u32; 2352], largest: u32, bound: usize) -> Walked
     requires { ⌜ HoldsCounts (now counts) × Ranges largest bound ⌝ }
 {

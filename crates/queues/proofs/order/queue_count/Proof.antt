@@ -1,5 +1,6 @@
 -- `queue_count` meets its contract: N sums the counts of the slacks 0 to M at the first position.
 use mathlib.Core.Path.{_∙_}
+use native.Mathlib.Omega.{arith}
 use Rattle.queues.proofs.Numbering.{queues-none, queues-needed, queues-counted}
 use borrow.Author.Needs.{needs}
 use Rattle.queues.proofs.order.queue_count.Statement.{statement}
@@ -16,7 +17,7 @@ add-sum-of-counts c = search needs
 
 sum-of-counts-requires : tie.Need-sum-of-counts-requires
 sum-of-counts-requires c κs =
-    (c .before .pre .0, queues-needed (c .before .args .largest) (c .before .args .bound) (c .before .pre .1) (c .if1 .left))
+    (c .before .pre .0, λ j h. queues-needed (c .before .args .largest) (c .before .args .bound) (c .before .pre .1) (c .if1 .left) j (omega arith))
 
 returns-2 : tie.Need-returns-2
 returns-2 c = c .sum-of-counts .ensures ∙ queues-counted (c .before .before .args .largest) (c .before .before .args .bound) (c .before .if1 .left)
