@@ -64,6 +64,6 @@ demand3 first second there back p v w r t u i =
     let P = processOf first in
     let Q = processOf second in
     let e = eased-values P Q (first .jobCount) (weightAt first) (weightAt second) (p .one-to-one) (p .same-weight) (eased p)
-    (accepted first (p .first-accepted) .jobs-low) (first .horizon - t) w v r u i in
+    (accepted first (p .first-accepted) .ranged .jobs-low) (first .horizon - t) w v r u i in
     let IsLeast : ℕ → ℕ → Type 0 = λ n T. IsValue Q n (weightAt second) (T - t) v (some (e .0)) in
     (e .0, subst₂ IsLeast (sym (p .same-count)) (sym (p .same-horizon)) (e .1), e .2)

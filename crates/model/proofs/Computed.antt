@@ -14,14 +14,14 @@ use Rattle.model.specs.Cases.{Case, planned, valued, decides, answers, c
 use Rattle.model.specs.Counted.{Counted, counted, speedAt, weightAt, speedsOf, onSheet, energyOf, W, M, greatestEnergy, G}
 use Rattle.model.specs.Plan.{nextQueue, processOf, admissible, queueAt, valueIn, number12, planRefusal, rowRefusal, row}
 use Rattle.model.specs.Queue.{Queue, emptyQueue, bearable, bearableIn, run, arrive, eachTotal, continuations, bearableQueues, queueCount, placeIn, numberOf, continuationCount}
-use Rattle.model.specs.Reading.{Answer, refused, numberIn, readSpeeds, readJobs, readCounted, readAnswer}
+use Rattle.model.specs.Reading.{Answer, refused, numberIn, readSpeed, readSpeeds, readSpeedTable, readJob, readJobs, readJobTable, judged, readCounted, readAnswer}
 use Rattle.model.specs.Reading
-use Rattle.model.specs.Refusal.{speedsRefusal, jobsRefusal, refusal9, N, refusalGiven, sheetRefusal}
+use Rattle.model.specs.Refusal.{speedsRefusal, jobsRefusal, fieldsRefusal, refusal9, limitsRefusal, N, refusalGiven, sheetRefusal}
 use Rattle.model.specs.Stepper.{State, stateRight, startRefusal, start, planByte, byteRight, speedRefusal, speed, isEntry, moved, advanceRefusal, advance}
 use Rattle.model.specs.declared.Job.{Job}
 use Rattle.model.specs.declared.Sheet.{Sheet}
 use Rattle.model.specs.declared.Speed.{Speed}
-use Rattle.model.specs.Tests.{check, _then_, everywhere, anywhere, firstPlace, greatest, listed}
+use Rattle.model.specs.Tests.{check, _then_, inOrder, inTurn, everywhere, anywhere, firstPlace, greatest, listed}
 
 -- tests of equality
 
@@ -135,5 +135,5 @@ firstFailing place (c ∷ rest) = check (test c) (suc place) then firstFailing (
 
 -- the computation: every case passes its test
 pub cases-pass : firstFailing 0 cases ≡ 0
-unfolding cases casesP casesOfPlans casesOfQueues casesOfRefusals casesOfBytes casesOfSteps firstFailing test quickN orderly byteTest decidesTest costTest rowTest sameOption sameAnswer sameState sameBy sameSpeed sameJob sameCounted sameBool sum sumOrNone cheaper best priced choice value plan codeIn speedBytes jobBytes sheetBytes writeRefusal write speedsOf onSheet energyOf W M greatestEnergy G nextQueue processOf admissible planRefusal rowRefusal row bearable bearableIn run arrive eachTotal continuations bearableQueues queueCount placeIn numberOf continuationCount numberIn readSpeeds readJobs readCounted speedsRefusal jobsRefusal refusal9 N refusalGiven sheetRefusal stateRight startRefusal start planByte byteRight speedRefusal speed isEntry moved advanceRefusal advance everywhere anywhere firstPlace greatest listed same
+unfolding cases casesP casesOfPlans casesOfQueues casesOfRefusals casesOfBytes casesOfSteps firstFailing test quickN orderly byteTest decidesTest costTest rowTest sameOption sameAnswer sameState sameBy sameSpeed sameJob sameCounted sameBool sum sumOrNone cheaper best priced choice value plan codeIn speedBytes jobBytes sheetBytes writeRefusal write speedsOf onSheet energyOf W M greatestEnergy G nextQueue processOf admissible planRefusal rowRefusal row bearable bearableIn run arrive eachTotal continuations bearableQueues queueCount placeIn numberOf continuationCount numberIn readSpeed readSpeeds readSpeedTable readJob readJobs readJobTable judged readCounted speedsRefusal jobsRefusal fieldsRefusal refusal9 limitsRefusal N refusalGiven sheetRefusal stateRight startRefusal start planByte byteRight speedRefusal speed isEntry moved advanceRefusal advance inOrder inTurn everywhere anywhere firstPlace greatest listed same
 cases-pass = refl

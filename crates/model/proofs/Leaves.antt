@@ -17,7 +17,7 @@ use Rattle.model.specs.Counted.{Counted, weightAt}
 use Rattle.model.specs.Plan.{processOf, IsValueAt, IsPlanByte, noValue, decoded, valueIn, queueAt, placeAt, valuesNeeded, planNeeded, planRefusal, PlanAnswer, Decided, FromEmpty, Filled, LeavesBy, Leaves, number12}
 use Rattle.model.specs.Queue.{Queue, emptyQueue}
 use Rattle.model.specs.Refusal.{N, sheetRefusal}
-use Rattle.model.proofs.Refusal.{N-low}
+use Rattle.model.proofs.Refusal.{accepted, N-low}
 use Rattle.model.proofs.Tests.{then-left}
 
 -- lists that are equal up to n, and from n on, are equal
@@ -114,7 +114,7 @@ module _ (s : Counted) (some-queue : 0 < N s) (values₀ plan₀ : List ℕ) whe
 -- a sheet that is planned has a queue
 planned-queue : (s : Counted) (valuesRoom planRoom : ℕ) → planRefusal s valuesRoom planRoom ≡ 0 → 0 < N s
 unfolding planRefusal
-planned-queue s valuesRoom planRoom e = omega (arith, N-low s (then-left (sheetRefusal s) _ e))
+planned-queue s valuesRoom planRoom e = omega (arith, N-low s (accepted s (then-left (sheetRefusal s) _ e) .ranged))
 
 -- two results for the same sheet and the same lent memory are equal
 pub leaves-unique : (s : Counted) (values₀ plan₀ values plan values′ plan′ : List ℕ) (a b : PlanAnswer) →

@@ -3,20 +3,18 @@
 use Prim.Native.Nat.{ℕ, zero, suc, pred, _*_, _^_, _≤_, _<_}
 use mathlib.Core.Path.{_≡_}
 use mathlib.Core.Bool.{Bool, _&&_}
-use mathlib.Core.Logic.{⊎-elim}
-use native.Mathlib.Nat.{eq-or-lt-of-le, le-of-suc-le-suc, not-suc-le-zero}
 use native.Mathlib.Omega.{arith}
 use lib.Dec.{T, leb, ltb, leb→le, ltb→lt, eqb→eq}
 use Rattle.process.specs.Pairing.{Rising}
 use Rattle.model.specs.Counted.{Counted, speedAt, energyAt, weightAt, sizeAt, deadlineAt, speedsOf, W, M, G}
-use Rattle.model.specs.Refusal.{boundRight, speedCountRight, speedRight, energyRight, horizonRight, jobCountRight, weightRight, sizeRight, deadlineRight, speedsRefusal, jobsRefusal, refusal9, refusalGiven, sheetRefusal, valueLimit, N}
+use Rattle.model.specs.Refusal.{boundRight, speedCountRight, speedRight, energyRight, horizonRight, jobCountRight, weightRight, sizeRight, deadlineRight, speedsRefusal, jobsRefusal, fieldsRefusal, refusal9, limitsRefusal, refusalGiven, sheetRefusal, valueLimit, N}
 use Rattle.model.specs.Tests.{check, _then_, within}
 use Rattle.model.proofs.Queues.{at-least-two}
 use Rattle.model.proofs.Counted.{climbs-rise, on-sheet-at, speed-upto}
-use Rattle.model.proofs.Tests.{and-left, and-right, check-zero, then-left, then-right, greatest-upto}
+use Rattle.model.proofs.Tests.{and-left, and-right, check-zero, then-left, then-right, in-order-at, greatest-upto}
 
--- document 01's ranges, of each place that counts
-pub record Accepted (s : Counted) : Type 0 where
+-- document 01's ranges, of each place that counts: what 4 to 8 test
+pub record Ranged (s : Counted) : Type 0 where
   pub bound-low : 1 ≤ s .bound
   pub bound-high : s .bound ≤ 6
   pub speeds-low : 2 ≤ s .speedCount
@@ -34,6 +32,10 @@ pub record Accepted (s : Counted) : Type 0 where
   pub size-high : (i : ℕ) → i < s .jobCount → sizeAt s i ≤ 255
   pub deadline-low : (i : ℕ) → i < s .jobCount → 1 ≤ deadlineAt s i
   pub deadline-high : (i : ℕ) → i < s .jobCount → deadlineAt s i ≤ s .bound
+
+-- and the limits of the whole sheet: what 9 and 10 test
+pub record Accepted (s : Counted) : Type 0 where
+  pub ranged : Ranged s
   pub fits : s .horizon * G s * W s ^ s .horizon ≤ valueLimit
   pub queues-high : N s ≤ 65535
 
@@ -56,35 +58,29 @@ speed-next before speed t =
 speeds-right : (s : Counted) (n : ℕ) → speedsRefusal s n ≡ 0 → (j : ℕ) → j < n →
     T (speedRight j (speedAt s (pred j)) (speedAt s j)) × T (energyRight (energyAt s j))
 unfolding speedsRefusal
-speeds-right s zero e j h = absurd (not-suc-le-zero h)
-speeds-right s (suc n) e j h =
-    let speed = passed (speedRight n (speedAt s (pred n)) (speedAt s n)) 4 _ (then-right (speedsRefusal s n) _ e) in
-    ⊎-elim (λ q. rw q (speed .0, check-zero (energyRight (energyAt s n)) 5 (speed .1)))
-    (λ l. speeds-right s n (then-left (speedsRefusal s n) _ e) j l) (eq-or-lt-of-le (le-of-suc-le-suc h))
+speeds-right s n e j h =
+    let speed = passed (speedRight j (speedAt s (pred j)) (speedAt s j)) 4 _ (in-order-at _ n e j h) in
+    (speed .0, check-zero (energyRight (energyAt s j)) 5 (speed .1))
 
 -- every weight, size and deadline was found right
 jobs-right : (s : Counted) (n : ℕ) → jobsRefusal s n ≡ 0 → (i : ℕ) → i < n →
     T (weightRight (weightAt s i)) × T (sizeRight (sizeAt s i)) × T (deadlineRight (s .bound) (deadlineAt s i))
 unfolding jobsRefusal
-jobs-right s zero e i h = absurd (not-suc-le-zero h)
-jobs-right s (suc n) e i h =
-    let weight = passed (weightRight (weightAt s n)) 7 _ (then-right (jobsRefusal s n) _ e) in
-    let size = passed (sizeRight (sizeAt s n)) 7 _ (weight .1) in
-    ⊎-elim (λ q. rw q (weight .0, size .0, check-zero (deadlineRight (s .bound) (deadlineAt s n)) 7 (size .1)))
-    (λ l. jobs-right s n (then-left (jobsRefusal s n) _ e) i l) (eq-or-lt-of-le (le-of-suc-le-suc h))
+jobs-right s n e i h =
+    let weight = passed (weightRight (weightAt s i)) 7 _ (in-order-at _ n e i h) in
+    let size = passed (sizeRight (sizeAt s i)) 7 _ (weight .1) in
+    (weight .0, size .0, check-zero (deadlineRight (s .bound) (deadlineAt s i)) 7 (size .1))
 
--- a sheet whose number is 0 keeps every range
-pub accepted : (s : Counted) → sheetRefusal s ≡ 0 → Accepted s
-unfolding sheetRefusal refusalGiven refusal9
-accepted s e =
+-- a sheet of which 4 to 8 are 0 keeps every range
+pub ranged : (s : Counted) → fieldsRefusal s ≡ 0 → Ranged s
+unfolding fieldsRefusal
+ranged s e =
     let bound = passed (boundRight (s .bound)) 3 _ e in
     let count = passed (speedCountRight (s .speedCount)) 4 _ (bound .1) in
     let speeds = speeds-right s (s .speedCount) (then-left (speedsRefusal s (s .speedCount)) _ (count .1)) in
     let horizon = passed (horizonRight (s .horizon)) 6 _ (then-right (speedsRefusal s (s .speedCount)) _ (count .1)) in
     let jobCount = passed (jobCountRight (s .jobCount)) 7 _ (horizon .1) in
-    let jobs = jobs-right s (s .jobCount) (then-left (jobsRefusal s (s .jobCount)) _ (jobCount .1)) in
-    let limits = then-right (jobsRefusal s (s .jobCount)) _ (jobCount .1) in
-    let value = passed (leb (s .horizon * G s * W s ^ s .horizon) valueLimit) 8 _ limits in
+    let jobs = jobs-right s (s .jobCount) (jobCount .1) in
     let zeroth : speedAt s 0 ≡ 0 = eqb→eq (speedAt s 0) 0 (speeds 0 (omega (arith, in-range 2 9 (s .speedCount) (count .0))) .0) in
     let next : (j : ℕ) → suc j < s .speedCount → (speedAt s j < speedAt s (suc j)) × (speedAt s (suc j) ≤ 8) =
     λ j h. speed-next (speedAt s j) (speedAt s (suc j)) (speeds (suc j) h .0) in
@@ -106,26 +102,33 @@ accepted s e =
       size-high = λ i h. leb→le (sizeAt s i) 255 (jobs i h .1);
       deadline-low = λ i h. in-range 1 (s .bound) (deadlineAt s i) (jobs i h .2) .0;
       deadline-high = λ i h. in-range 1 (s .bound) (deadlineAt s i) (jobs i h .2) .1;
+    }
+
+-- a sheet whose number is 0 keeps every range and both limits
+pub accepted : (s : Counted) → sheetRefusal s ≡ 0 → Accepted s
+unfolding sheetRefusal refusalGiven limitsRefusal refusal9
+accepted s e =
+    let value = passed (leb (s .horizon * G s * W s ^ s .horizon) valueLimit) 8 _ (then-right (fieldsRefusal s) _ e) in
+    record {
+      ranged = ranged s (then-left (fieldsRefusal s) _ e);
       fits = leb→le (s .horizon * G s * W s ^ s .horizon) valueLimit (value .0);
       queues-high = leb→le (N s) 65535 (check-zero (leb (N s) 65535) 9 (value .1));
     }
 
--- an accepted sheet's speeds are strictly rising
-pub speeds-rise : (s : Counted) → sheetRefusal s ≡ 0 → Rising (speedsOf s)
-speeds-rise s e = climbs-rise s (accepted s e .rises)
+-- the speeds are strictly rising
+pub speeds-rise : (s : Counted) → Ranged s → Rising (speedsOf s)
+speeds-rise s r = climbs-rise s (r .rises)
 
 -- M is 1 at least: the speeds are two at least and rise from 0
-pub M-low : (s : Counted) → sheetRefusal s ≡ 0 → 1 ≤ M s
-M-low s e =
-    let a = accepted s e in
-    omega (arith, speed-upto s (speedAt s 1) (on-sheet-at s 1 (a .speeds-low)), a .rises 0 (a .speeds-low))
+pub M-low : (s : Counted) → Ranged s → 1 ≤ M s
+M-low s r = omega (arith, speed-upto s (speedAt s 1) (on-sheet-at s 1 (r .speeds-low)), r .rises 0 (r .speeds-low))
 
 -- M is 8 at most
-pub M-high : (s : Counted) → sheetRefusal s ≡ 0 → M s ≤ 8
+pub M-high : (s : Counted) → Ranged s → M s ≤ 8
 unfolding M
-M-high s e = greatest-upto (speedAt s) (s .speedCount) 8 (accepted s e .speed-high)
+M-high s r = greatest-upto (speedAt s) (s .speedCount) 8 (r .speed-high)
 
 -- N is at least 2, so that an empty row always means that there is none
-pub N-low : (s : Counted) → sheetRefusal s ≡ 0 → 2 ≤ N s
+pub N-low : (s : Counted) → Ranged s → 2 ≤ N s
 unfolding N
-N-low s e = at-least-two (M s) (s .bound) (M-low s e) (accepted s e .bound-low)
+N-low s r = at-least-two (M s) (s .bound) (M-low s r) (r .bound-low)

@@ -9,7 +9,7 @@ use native.Mathlib.Omega.{arith}
 use borrow.Author.Tests.{ltb-true, ltb-false}
 use lib.Dec.{T, ltb}
 use lib.ListN.{length, getD}
-use Rattle.model.specs.Tests.{check, _then_, everywhere, anywhere, firstPlace, greatest, listed}
+use Rattle.model.specs.Tests.{check, _then_, inOrder, everywhere, anywhere, firstPlace, greatest, listed}
 
 -- two tests together
 
@@ -58,10 +58,41 @@ pub then-both : (a b : ℕ) → a ≡ 0 → b ≡ 0 → a then b ≡ 0
 then-both zero b d e = e
 then-both (suc a) b d e = d
 
--- everywhere and anywhere below n
+-- places below n
 
 below-suc : {i n : ℕ} → i < suc n → (i ≡ n) ⊎ (i < n)
 below-suc h = eq-or-lt-of-le (le-of-suc-le-suc h)
+
+-- tests of places 0 to n-1 in order
+
+-- where the number is 0, that of each place is
+pub in-order-at : (number : ℕ → ℕ) (n : ℕ) → inOrder number n ≡ 0 → (i : ℕ) → i < n → number i ≡ 0
+unfolding inOrder
+in-order-at number zero e i h = absurd (not-suc-le-zero h)
+in-order-at number (suc n) e i h =
+    ⊎-elim (λ q. rw q (then-right (inOrder number n) (number n) e))
+    (λ l. in-order-at number n (then-left (inOrder number n) (number n) e) i l) (below-suc h)
+
+pub in-order-all : (number : ℕ → ℕ) (n : ℕ) → ((i : ℕ) → i < n → number i ≡ 0) → inOrder number n ≡ 0
+unfolding inOrder
+in-order-all number zero all = refl
+in-order-all number (suc n) all =
+    then-both (inOrder number n) (number n) (in-order-all number n (λ i h. all i (omega arith))) (all n (le-refl (suc n)))
+
+-- what a loop over the places knows: all passed so far and one more
+pub in-order-more : (number : ℕ → ℕ) (j : ℕ) → inOrder number j ≡ 0 → number j ≡ 0 → inOrder number (j + 1) ≡ 0
+unfolding inOrder
+in-order-more number j below here = rw (add-one, below) here
+
+-- and where one fails after all before it passed, that one's number is the number of all
+pub in-order-stops : (number : ℕ → ℕ) (j n k : ℕ) → inOrder number j ≡ 0 → number j ≡ suc k → j < n → inOrder number n ≡ suc k
+unfolding inOrder
+in-order-stops number j zero k below here h = absurd (not-suc-le-zero h)
+in-order-stops number j (suc n) k below here h =
+    ⊎-elim (λ q. rw (← q, below) here)
+    (λ l. let all : inOrder number n ≡ suc k = in-order-stops number j n k below here l in rw all) (below-suc h)
+
+-- everywhere and anywhere below n
 
 pub everywhere-at : (test : ℕ → Bool) (n : ℕ) → T (everywhere test n) → (i : ℕ) → i < n → T (test i)
 unfolding everywhere

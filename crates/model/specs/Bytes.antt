@@ -6,7 +6,7 @@ use lib.Dec.{leb, ltb, eqb}
 use lib.ListN.{length, drop}
 use Rattle.model.specs.Counted.{Counted, speedAt, energyAt, weightAt, sizeAt, deadlineAt}
 use Rattle.model.specs.Refusal.{sheetRefusal}
-use Rattle.model.specs.Tests.{check, _then_}
+use Rattle.model.specs.Tests.{check, _then_, inTurn}
 
 -- "Each number is cut into groups of seven bits, the lowest group first, the high bit set on every byte but the last": in at most n bytes
 unfoldable pub codeIn : ℕ → ℕ → List ℕ
@@ -17,15 +17,13 @@ codeIn (suc n) x = cond (ltb x 128) (x ∷ []) ((128 + x % 128) ∷ codeIn n (x 
 abbrev pub code : ℕ → List ℕ
 code x = codeIn 3 x
 
--- "for each, speed then energy"
+-- "for each, speed then energy": the first n
 unfoldable pub speedBytes : Counted → ℕ → List ℕ
-speedBytes s zero = []
-speedBytes s (suc j) = speedBytes s j ++ (code (speedAt s j) ++ code (energyAt s j))
+speedBytes s n = inTurn (λ j. code (speedAt s j) ++ code (energyAt s j)) n
 
--- "for each, weight, size, deadline"
+-- "for each, weight, size, deadline": the first n
 unfoldable pub jobBytes : Counted → ℕ → List ℕ
-jobBytes s zero = []
-jobBytes s (suc i) = jobBytes s i ++ (code (weightAt s i) ++ (code (sizeAt s i) ++ code (deadlineAt s i)))
+jobBytes s n = inTurn (λ i. code (weightAt s i) ++ (code (sizeAt s i) ++ code (deadlineAt s i))) n
 
 -- "Field order: D; count of speeds; for each, speed then energy; T; count of jobs; for each, weight, size, deadline. Nothing follows"
 unfoldable pub sheetBytes : Counted → List ℕ

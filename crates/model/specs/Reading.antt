@@ -6,8 +6,7 @@ use mathlib.Core.List.{List, [], _∷_}
 use lib.Dec.{leb, ltb, eqb}
 use lib.ListN.{length, getD}
 use Rattle.model.specs.Counted.{Counted, inMemory, zeroSheet}
-use Rattle.model.specs.Refusal.{boundRight, speedCountRight, speedRight, energyRight, horizonRight, jobCountRight, weightRight, sizeRight, deadlineRight, refusal9, refusal10, valueLimit, N}
-use Rattle.model.specs.Tests.{_then_}
+use Rattle.model.specs.Refusal.{boundRight, speedCountRight, speedRight, energyRight, horizonRight, jobCountRight, weightRight, sizeRight, deadlineRight, limitsRefusal, N}
 use Rattle.model.specs.declared.Job.{Job}
 use Rattle.model.specs.declared.Sheet.{Sheet}
 use Rattle.model.specs.declared.Speed.{Speed}
@@ -63,54 +62,78 @@ numberIn (suc n) bytes at =
 abbrev pub field : Reader ℕ
 field bytes at = numberIn 3 bytes at
 
--- `left` speeds with their energies; the next stands at place j of the sheet, after the speed `before`
-unfoldable pub readSpeeds : ℕ → ℕ → ℕ → Reader (List Speed)
-readSpeeds zero j before = done []
-readSpeeds (suc left) j before = do
+-- one speed with its energy, which stands at place j of the sheet, after the speed `before`
+unfoldable pub readSpeed : ℕ → ℕ → Reader Speed
+readSpeed j before = do
   speed ← field
   test (speedRight j before speed) 5
   energy ← field
   test (energyRight energy) 6
-  rest ← readSpeeds left (suc j) speed
-  done (record { speed = speed; energy = energy } ∷ rest)
+  done (record { speed = speed; energy = energy })
 
--- `left` jobs of a sheet with deadline bound D
-unfoldable pub readJobs : ℕ → ℕ → Reader (List Job)
-readJobs D zero = done []
-readJobs D (suc left) = do
+-- `left` speeds with their energies, from place j on
+unfoldable pub readSpeeds : ℕ → ℕ → ℕ → Reader (List Speed)
+readSpeeds zero j before = done []
+readSpeeds (suc left) j before = do
+  one ← readSpeed j before
+  rest ← readSpeeds left (suc j) (one .speed)
+  done (one ∷ rest)
+
+-- "count of speeds; for each, speed then energy"
+unfoldable pub readSpeedTable : Reader (List Speed)
+readSpeedTable = do
+  speedCount ← field
+  test (speedCountRight speedCount) 5
+  readSpeeds speedCount 0 0
+
+-- one job of a sheet with deadline bound D
+unfoldable pub readJob : ℕ → Reader Job
+readJob D = do
   weight ← field
   test (weightRight weight) 8
   size ← field
   test (sizeRight size) 8
   deadline ← field
   test (deadlineRight D deadline) 8
+  done (record { weight = weight; size = size; deadline = deadline })
+
+-- `left` jobs
+unfoldable pub readJobs : ℕ → ℕ → Reader (List Job)
+readJobs D zero = done []
+readJobs D (suc left) = do
+  one ← readJob D
   rest ← readJobs D left
-  done (record { weight = weight; size = size; deadline = deadline } ∷ rest)
+  done (one ∷ rest)
+
+-- "count of jobs; for each, weight, size, deadline"
+unfoldable pub readJobTable : ℕ → Reader (List Job)
+readJobTable D = do
+  jobCount ← field
+  test (jobCountRight jobCount) 8
+  readJobs D jobCount
 
 -- "3: bytes follow the last field"
 abbrev pub ended : Reader (Unit {0})
 ended bytes at = test (leb (length bytes) at) 3 bytes at
 
--- the fields in order, and then 3, 9, 10; `queues` is N of a sheet
+-- 9 and 10 of what was read; `queues` is N of a sheet
+unfoldable pub judged : (Counted → ℕ) → Counted → Reader Counted
+judged queues s = do
+  refuse (limitsRefusal (queues s) s)
+  done s
+
+-- the fields in order, and then 3, 9, 10
 unfoldable pub readCounted : (Counted → ℕ) → Reader Counted
 readCounted queues = do
   D ← field
   test (boundRight D) 4
-  speedCount ← field
-  test (speedCountRight speedCount) 5
-  speeds ← readSpeeds speedCount 0 0
+  speeds ← readSpeedTable
   T ← field
   test (horizonRight T) 7
-  jobCount ← field
-  test (jobCountRight jobCount) 8
-  jobs ← readJobs D jobCount
+  jobs ← readJobTable D
   ended
-  judged (record { bound = D; speedCount = speedCount; speeds = speeds; horizon = T; jobCount = jobCount; jobs = jobs })
-  where
-    judged : Counted → Reader Counted
-    judged s = do
-      refuse (refusal9 (s .horizon) valueLimit s then refusal10 (queues s))
-      done s
+  judged queues
+    (record { bound = D; speedCount = length speeds; speeds = speeds; horizon = T; jobCount = length jobs; jobs = jobs })
 
 -- what a read answers, by the number and the sheet: "A refused read gives an all-zero sheet"
 

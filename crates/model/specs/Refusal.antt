@@ -5,7 +5,7 @@ use mathlib.Core.Bool.{Bool, _&&_}
 use lib.Dec.{leb, ltb, eqb}
 use Rattle.model.specs.Counted.{Counted, speedAt, energyAt, weightAt, sizeAt, deadlineAt, W, M, G}
 use Rattle.model.specs.Queue.{queueCount}
-use Rattle.model.specs.Tests.{check, _then_, within}
+use Rattle.model.specs.Tests.{check, _then_, inOrder, within}
 
 -- the range of each field
 
@@ -44,18 +44,32 @@ sizeRight size = leb size 255
 abbrev pub deadlineRight : ℕ → ℕ → Bool
 deadlineRight D deadline = within 1 D deadline
 
--- 5 and 6 over the first j speeds: each speed, then its energy, then the next speed
-unfoldable pub speedsRefusal : Counted → ℕ → ℕ
-speedsRefusal s zero = 0
-speedsRefusal s (suc j) =
-    speedsRefusal s j then check (speedRight j (speedAt s (pred j)) (speedAt s j)) 5 then check (energyRight (energyAt s j)) 6
+-- 5 and 6 of the speed at place j, after the speed `before`: the speed, then its energy
+abbrev pub refusalOfSpeed : ℕ → ℕ → ℕ → ℕ → ℕ
+refusalOfSpeed j before speed energy = check (speedRight j before speed) 5 then check (energyRight energy) 6
 
--- 8 over the first i jobs
+-- over the first n speeds: each speed, its energy, then the next speed
+unfoldable pub speedsRefusal : Counted → ℕ → ℕ
+speedsRefusal s n = inOrder (λ j. refusalOfSpeed j (speedAt s (pred j)) (speedAt s j) (energyAt s j)) n
+
+-- 8 of one job of a sheet with deadline bound D
+abbrev pub refusalOfJob : ℕ → ℕ → ℕ → ℕ → ℕ
+refusalOfJob D weight size deadline =
+    check (weightRight weight) 8 then check (sizeRight size) 8 then check (deadlineRight D deadline) 8
+
+-- over the first n jobs
 unfoldable pub jobsRefusal : Counted → ℕ → ℕ
-jobsRefusal s zero = 0
-jobsRefusal s (suc i) =
-    jobsRefusal s i then check (weightRight (weightAt s i)) 8 then check (sizeRight (sizeAt s i)) 8 then
-    check (deadlineRight (s .bound) (deadlineAt s i)) 8
+jobsRefusal s n = inOrder (λ i. refusalOfJob (s .bound) (weightAt s i) (sizeAt s i) (deadlineAt s i)) n
+
+-- 4 to 8: the range of each field, in field order
+unfoldable pub fieldsRefusal : Counted → ℕ
+fieldsRefusal s =
+    check (boundRight (s .bound)) 4 then
+    check (speedCountRight (s .speedCount)) 5 then
+    speedsRefusal s (s .speedCount) then
+    check (horizonRight (s .horizon)) 7 then
+    check (jobCountRight (s .jobCount)) 8 then
+    jobsRefusal s (s .jobCount)
 
 -- "9: T times G times W to the power T exceeds 2^63-1": the factor (here T) and the limit are given
 unfoldable pub refusal9 : ℕ → ℕ → Counted → ℕ
@@ -73,17 +87,13 @@ refusal10 N = check (leb N 65535) 10
 unfoldable pub N : Counted → ℕ
 N s = queueCount (M s) (s .bound)
 
+-- 9 and 10, of the sheet as a whole, where its N is `queues`
+unfoldable pub limitsRefusal : ℕ → Counted → ℕ
+limitsRefusal queues s = refusal9 (s .horizon) valueLimit s then refusal10 queues
+
 -- 4 to 10 in field order, where the sheet's N is `queues`
 unfoldable pub refusalGiven : ℕ → Counted → ℕ
-refusalGiven queues s =
-    check (boundRight (s .bound)) 4 then
-    check (speedCountRight (s .speedCount)) 5 then
-    speedsRefusal s (s .speedCount) then
-    check (horizonRight (s .horizon)) 7 then
-    check (jobCountRight (s .jobCount)) 8 then
-    jobsRefusal s (s .jobCount) then
-    refusal9 (s .horizon) valueLimit s then
-    refusal10 queues
+refusalGiven queues s = fieldsRefusal s then limitsRefusal queues s
 
 -- the number of a sheet: 0, or the first of 4 to 10 whose test fails
 unfoldable pub sheetRefusal : Counted → ℕ

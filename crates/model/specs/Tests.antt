@@ -16,6 +16,11 @@ abbrev pub _then_ : ℕ → ℕ → ℕ
 zero then later = later
 suc number then later = suc number
 
+-- tests of places 0 to n-1 in order: the number of the first that fails, 0 where all pass
+unfoldable pub inOrder : (ℕ → ℕ) → ℕ → ℕ
+inOrder number zero = 0
+inOrder number (suc n) = inOrder number n then number n
+
 -- lowest ≤ x ≤ highest
 abbrev pub within : ℕ → ℕ → ℕ → Bool
 within lowest highest x = leb lowest x && leb x highest
@@ -46,6 +51,11 @@ greatest f (suc n) = max (greatest f n) (f n)
 unfoldable pub listed {ℓ} : {A : Type ℓ} → (ℕ → A) → ℕ → List A
 listed f zero = []
 listed f (suc n) = f zero ∷ listed (λ i. f (suc i)) n
+
+-- f 0, then f 1, .., then f (n - 1), as one list
+unfoldable pub inTurn {ℓ} : {A : Type ℓ} → (ℕ → List A) → ℕ → List A
+inTurn f zero = []
+inTurn f (suc n) = inTurn f n ++ f n
 
 -- a list in n places, the ones past its end filled with `zeros`
 abbrev pub padded {ℓ} : {A : Type ℓ} → ℕ → A → List A → List A
