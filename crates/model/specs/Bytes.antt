@@ -1,12 +1,16 @@
 -- Document 01, "Bytes": a number's code, a sheet's bytes, and what the writer leaves.
-use Prim.Native.Nat.{ℕ, zero, suc, _+_, _%_, _/_}
+use Prim.Native.Nat.{ℕ, zero, suc, _+_, _%_, _/_, _<_}
 use mathlib.Core.Bool.{cond}
 use mathlib.Core.List.{List, [], _∷_, _++_}
 use lib.Dec.{leb, ltb, eqb}
-use lib.ListN.{length, drop}
+use lib.ListN.{length, getD, drop}
 use Rattle.model.specs.Counted.{Counted, speedAt, energyAt, weightAt, sizeAt, deadlineAt}
 use Rattle.model.specs.Refusal.{sheetRefusal}
 use Rattle.model.specs.Tests.{check, _then_, inTurn}
+
+-- each of them is a byte
+abbrev pub AreBytes : List ℕ → Type 0
+AreBytes l = (i : ℕ) → getD l i 0 < 256
 
 -- "Each number is cut into groups of seven bits, the lowest group first, the high bit set on every byte but the last": in at most n bytes
 unfoldable pub codeIn : ℕ → ℕ → List ℕ
