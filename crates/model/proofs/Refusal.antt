@@ -1,12 +1,15 @@
 -- What an accepted sheet gives (specs/Refusal.antt): the ranges of document 01 as plain facts. The other proofs use these facts, and not
 -- the order in which a sheet is tested.
 use Prim.Native.Nat.{ℕ, zero, suc, pred, _*_, _^_, _≤_, _<_}
-use mathlib.Core.Path.{_≡_}
-use mathlib.Core.Bool.{Bool, _&&_}
+use mathlib.Core.Path.{_≡_, ap}
+use mathlib.Core.Bool.{Bool, true, false, cond, _&&_}
 use native.Mathlib.Omega.{arith}
-use lib.Dec.{T, leb, ltb, leb→le, ltb→lt, eqb→eq}
+use borrow.Author.Tests.{ne-eqb}
+use lib.Dec.{T, leb, ltb, eqb, leb→le, ltb→lt, eqb→eq}
+use Rattle.process.specs.Sums.{sum}
 use Rattle.process.specs.Pairing.{Rising}
-use Rattle.model.specs.Counted.{Counted, speedAt, energyAt, weightAt, sizeAt, deadlineAt, speedsOf, W, M, G}
+use Rattle.process.proofs.Sums.{sum-more, sum-upto}
+use Rattle.model.specs.Counted.{Counted, speedAt, energyAt, weightAt, sizeAt, deadlineAt, speedsOf, W, M, greatestEnergy, G}
 use Rattle.model.specs.Refusal.{boundRight, speedCountRight, speedRight, energyRight, horizonRight, jobCountRight, weightRight, sizeRight, deadlineRight, speedsRefusal, jobsRefusal, fieldsRefusal, refusal9, limitsRefusal, refusalGiven, sheetRefusal, valueLimit, N}
 use Rattle.model.specs.Tests.{check, _then_, within}
 use Rattle.model.proofs.Queues.{at-least-two}
@@ -55,7 +58,7 @@ speed-next before speed t =
     (ltb→lt before speed (and-left (ltb before speed) (leb speed 8) t), leb→le speed 8 (and-right (ltb before speed) (leb speed 8) t))
 
 -- every speed and its energy were found right
-speeds-right : (s : Counted) (n : ℕ) → speedsRefusal s n ≡ 0 → (j : ℕ) → j < n →
+pub speeds-right : (s : Counted) (n : ℕ) → speedsRefusal s n ≡ 0 → (j : ℕ) → j < n →
     T (speedRight j (speedAt s (pred j)) (speedAt s j)) × T (energyRight (energyAt s j))
 unfolding speedsRefusal
 speeds-right s n e j h =
@@ -63,7 +66,7 @@ speeds-right s n e j h =
     (speed .0, check-zero (energyRight (energyAt s j)) 5 (speed .1))
 
 -- every weight, size and deadline was found right
-jobs-right : (s : Counted) (n : ℕ) → jobsRefusal s n ≡ 0 → (i : ℕ) → i < n →
+pub jobs-right : (s : Counted) (n : ℕ) → jobsRefusal s n ≡ 0 → (i : ℕ) → i < n →
     T (weightRight (weightAt s i)) × T (sizeRight (sizeAt s i)) × T (deadlineRight (s .bound) (deadlineAt s i))
 unfolding jobsRefusal
 jobs-right s n e i h =
@@ -132,3 +135,32 @@ M-high s r = greatest-upto (speedAt s) (s .speedCount) 8 (r .speed-high)
 pub N-low : (s : Counted) → Ranged s → 2 ≤ N s
 unfolding N
 N-low s r = at-least-two (M s) (s .bound) (M-low s r) (r .bound-low)
+
+-- G is the greatest energy where that is not 0, else 1
+
+pub G-none : (s : Counted) → greatestEnergy s ≡ 0 → G s ≡ 1
+unfolding G
+G-none s e = ap (λ (n : ℕ). cond (eqb n 0) 1 n) e
+
+pub G-some : (s : Counted) → (greatestEnergy s ≡ 0 → ⊥) → G s ≡ greatestEnergy s
+unfolding G
+G-some s h = ap (λ (b : Bool). cond b 1 (greatestEnergy s)) (ne-eqb (greatestEnergy s) 0 h)
+
+-- G is 65,535 at most
+pub G-high : (s : Counted) → Ranged s → G s ≤ 65535
+unfolding G greatestEnergy
+G-high s r =
+    upto (eqb (greatestEnergy s) 0) (greatestEnergy s) (greatest-upto (energyAt s) (s .speedCount) 65535 (r .energy-high))
+  where
+    upto : (b : Bool) (n : ℕ) → n ≤ 65535 → cond b 1 n ≤ 65535
+    upto true n h = omega arith
+    upto false n h = h
+
+-- W is 1 at least: there is an entry, and its weight is 1 at least
+pub W-low : (s : Counted) → Ranged s → 1 ≤ W s
+unfolding W sum
+W-low s r = omega (arith, r .weight-low 0 (r .jobs-low), sum-more (weightAt s) 1 (s .jobCount) (r .jobs-low))
+
+-- W of the first n entries is 255 times n at most
+pub weights-high : (s : Counted) → Ranged s → (n : ℕ) → n ≤ s .jobCount → sum (weightAt s) n ≤ n * 255
+weights-high s r n h = sum-upto n 255 (λ i l. r .weight-high i (omega arith))

@@ -58,6 +58,27 @@ pub then-both : (a b : ℕ) → a ≡ 0 → b ≡ 0 → a then b ≡ 0
 then-both zero b d e = e
 then-both (suc a) b d e = d
 
+-- what each step of a chain of tests knows: a test that passes leaves it to the later ones, one that fails is the answer
+
+pub then-passes : (passes : Bool) (number later : ℕ) → passes ≡ true → check passes number then later ≡ later
+then-passes passes number later e = ap (λ (b : Bool). check b number then later) e
+
+pub then-fails : (passes : Bool) (number later : ℕ) → passes ≡ false → check passes (suc number) then later ≡ suc number
+then-fails passes number later e = ap (λ (b : Bool). check b (suc number) then later) e
+
+pub check-true : (passes : Bool) (number : ℕ) → passes ≡ true → check passes number ≡ 0
+check-true passes number e = ap (λ (b : Bool). check b number) e
+
+pub check-false : (passes : Bool) (number : ℕ) → passes ≡ false → check passes number ≡ number
+check-false passes number e = ap (λ (b : Bool). check b number) e
+
+pub then-on : (a later : ℕ) → a ≡ 0 → a then later ≡ later
+then-on a later e = ap (λ (n : ℕ). n then later) e
+
+pub then-stops : (a later : ℕ) → (a ≡ 0 → ⊥) → a then later ≡ a
+then-stops zero later h = absurd (h refl)
+then-stops (suc a) later h = refl
+
 -- places below n
 
 below-suc : {i n : ℕ} → i < suc n → (i ≡ n) ⊎ (i < n)
@@ -84,13 +105,17 @@ pub in-order-more : (number : ℕ → ℕ) (j : ℕ) → inOrder number j ≡ 0 
 unfolding inOrder
 in-order-more number j below here = rw (add-one, below) here
 
--- and where one fails after all before it passed, that one's number is the number of all
-pub in-order-stops : (number : ℕ → ℕ) (j n k : ℕ) → inOrder number j ≡ 0 → number j ≡ suc k → j < n → inOrder number n ≡ suc k
+in-order-stops : (number : ℕ → ℕ) (j n k : ℕ) → inOrder number j ≡ 0 → number j ≡ suc k → j < n → inOrder number n ≡ suc k
 unfolding inOrder
 in-order-stops number j zero k below here h = absurd (not-suc-le-zero h)
 in-order-stops number j (suc n) k below here h =
     ⊎-elim (λ q. rw (← q, below) here)
     (λ l. let all : inOrder number n ≡ suc k = in-order-stops number j n k below here l in rw all) (below-suc h)
+
+-- and where one fails after all before it passed, that one's number is the number of all
+pub in-order-first : (number : ℕ → ℕ) (j n : ℕ) {k : ℕ} → inOrder number j ≡ 0 → number j ≡ k → (k ≡ 0 → ⊥) → j < n → inOrder number n ≡ k
+in-order-first number j n {k = zero} below here some h = absurd (some refl)
+in-order-first number j n {k = suc k} below here some h = in-order-stops number j n k below here h
 
 -- everywhere and anywhere below n
 

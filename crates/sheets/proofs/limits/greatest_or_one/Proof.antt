@@ -1,0 +1,22 @@
+-- `greatest_or_one` meets its contract: G is told by whether the greatest energy is 0.
+use mathlib.Core.Path.{sym, _∙_}
+use borrow.Author.Needs.{needs}
+use Rattle.model.proofs.Refusal.{G-none, G-some}
+use Rattle.model.specs.Counted.{counted}
+use Rattle.sheets.proofs.limits.greatest_or_one.Statement.{statement}
+use Rattle.sheets.proofs.limits.greatest_or_one.Tie as tie
+
+greatest-energy-requires : tie.Need-greatest-energy-requires
+greatest-energy-requires c κs = search needs
+
+returns : tie.Need-returns
+returns c =
+    sym (G-none (counted (c .before .before .args .sheet)) (sym (c .before .greatest-energy .ensures) ∙ c .if1 .taken))
+
+returns-2 : tie.Need-returns-2
+returns-2 c =
+    let asked = c .before .greatest-energy .ensures in
+    asked ∙ sym (G-some (counted (c .before .before .args .sheet)) (λ e. c .if1 .left (asked ∙ e)))
+
+pub greatest-or-one-spec : {M : Type 1} → statement M
+greatest-or-one-spec = tie.close (tie.spec greatest-energy-requires returns returns-2)

@@ -1,0 +1,22 @@
+// The tests of a sheet in memory: its number, 0 or the first of 4 to 10 in 01's field order. The range of each field (ranges), what a
+// whole sheet's numbers come to and 9 and 10 over them (limits), and all the tests in their order (refusal).
+//
+// A sheet is handed on by value: nothing here changes it. Places past the counts are never looked at.
+mod limits;
+mod ranges;
+mod refusal;
+
+pub use limits::limits_refusal;
+pub use limits::largest;
+pub use limits::greatest_energy;
+pub use limits::weights;
+pub use ranges::bound_right;
+pub use ranges::speed_count_right;
+pub use ranges::speed_right;
+pub use ranges::energy_right;
+pub use ranges::horizon_right;
+pub use ranges::job_count_right;
+pub use ranges::weight_right;
+pub use ranges::size_right;
+pub use ranges::deadline_right;
+pub use refusal::sheet_refusal;

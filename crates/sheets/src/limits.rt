@@ -1,0 +1,132 @@
+// What a whole sheet's numbers come to, and the two limits over them: 9, that the largest value fits, and 10, that the queues are not
+// too many. All of it is of a sheet whose fields are in range (4 to 8).
+use model::Sheet;
+use queues::queue_count;
+ghost use mathlib.Core.Path.{_≡_};
+ghost use Prim.Native.Nat.{_*_, _^_, _≤_, max};
+ghost use lib.Dec.{leb};
+ghost use Rattle.model.specs.Counted.{counted, W, M, greatestEnergy, G};
+ghost use Rattle.model.specs.Refusal.{fieldsRefusal, limitsRefusal, N};
+ghost use Rattle.queues.specs.Counts.{HoldsCounts};
+
+// What number 9 holds the largest value to: 2^63 - 1.
+const VALUE_LIMIT: u64 = 9223372036854775807;
+
+// The larger of two numbers.
+fn larger(a: u32, b: u32) -> u32
+    ensures { λ r. ⌜ r ≡ max a b ⌝ }
+{
+    if a < b {
+        return b;
+    }
+    a
+}
+
+// The largest speed M.
+pub fn largest(sheet: Sheet) -> u32
+    requires { ⌜ fieldsRefusal (counted sheet) ≡ 0 ⌝ }
+    ensures { λ r. ⌜ r ≡ M (counted sheet) ⌝ }
+{
+    let mut most = 0;
+    let mut place = 0;
+    while place < sheet.speed_count {
+        let one = sheet.speeds[place as usize];
+        most = larger(most, one.speed);
+        place += 1;
+    }
+    most
+}
+
+// The greatest energy; 0 where all are 0.
+pub fn greatest_energy(sheet: Sheet) -> u32
+    requires { ⌜ fieldsRefusal (counted sheet) ≡ 0 ⌝ }
+    ensures { λ r. ⌜ r ≡ greatestEnergy (counted sheet) ⌝ }
+{
+    let mut most = 0;
+    let mut place = 0;
+    while place < sheet.speed_count {
+        let one = sheet.speeds[place as usize];
+        most = larger(most, one.energy);
+        place += 1;
+    }
+    most
+}
+
+// G, the greatest energy, or 1 if that is 0.
+fn greatest_or_one(sheet: Sheet) -> u32
+    requires { ⌜ fieldsRefusal (counted sheet) ≡ 0 ⌝ }
+    ensures { λ r. ⌜ r ≡ G (counted sheet) ⌝ }
+{
+    let greatest = greatest_energy(sheet);
+    if greatest == 0 {
+        return 1;
+    }
+    greatest
+}
+
+// W, the sum of the weights.
+pub fn weights(sheet: Sheet) -> u32
+    requires { ⌜ fieldsRefusal (counted sheet) ≡ 0 ⌝ }
+    ensures { λ r. ⌜ r ≡ W (counted sheet) ⌝ }
+{
+    let mut all = 0;
+    let mut place = 0;
+    while place < sheet.job_count {
+        let one = sheet.jobs[place as usize];
+        all += one.weight;
+        place += 1;
+    }
+    all
+}
+
+// Whether a number, multiplied so many times by another, stays within the limit. It is multiplied only where the product is known to
+// stay within the limit, so that none wraps; the first that would not decides, since the other number is at least 1.
+fn product_fits(first: u64, by: u64, times: u32, limit: u64) -> bool
+    requires { ⌜ 1 ≤ by ⌝ }
+    ensures { λ r. ⌜ r ≡ leb (first * by ^ times) limit ⌝ }
+{
+    if limit < first {
+        return false;
+    }
+    let most = limit / by;
+    let mut product = first;
+    let mut done = 0;
+    while done < times {
+        if most < product {
+            return false;
+        }
+        product *= by;
+        done += 1;
+    }
+    true
+}
+
+// Whether the factor times G times W to the power T stays within the limit, decided exactly.
+fn value_fits(factor: u32, limit: u64, sheet: Sheet) -> bool
+    requires { ⌜ (factor ≤ 65535) × (fieldsRefusal (counted sheet) ≡ 0) ⌝ }
+    ensures { λ r. ⌜ r ≡ leb (factor * G (counted sheet) * W (counted sheet) ^ sheet .horizon) limit ⌝ }
+{
+    let greatest = greatest_or_one(sheet);
+    let scale = weights(sheet);
+    product_fits(
+        factor as u64 * greatest as u64,
+        scale as u64,
+        sheet.horizon,
+        limit,
+    )
+}
+
+// 9 and 10.
+pub fn limits_refusal(counts: &[u32; 2352], sheet: Sheet) -> u32
+    requires { ⌜ HoldsCounts (now counts) × (fieldsRefusal (counted sheet) ≡ 0) ⌝ }
+    ensures { λ r. ⌜ r ≡ limitsRefusal (N (counted sheet)) (counted sheet) ⌝ }
+{
+    if !value_fits(sheet.horizon, VALUE_LIMIT, sheet) {
+        return 9;
+    }
+    let most = largest(sheet);
+    if 65535 < queue_count(counts, most, sheet.bound as usize) {
+        return 10;
+    }
+    0
+}

@@ -1,0 +1,83 @@
+// The range of each field of a sheet. The reader tests a field by these as it comes, the tests of a sheet in memory where it stands.
+ghost use mathlib.Core.Path.{_≡_};
+ghost use Rattle.model.specs.Tests.{within};
+ghost use Rattle.model.specs.Refusal.{boundRight, speedCountRight, speedRight, energyRight, horizonRight, jobCountRight, weightRight, sizeRight, deadlineRight};
+
+// Whether a number is one of those from the lowest to the highest.
+fn between(lowest: u32, highest: u32, x: u32) -> bool
+    ensures { λ r. ⌜ r ≡ within lowest highest x ⌝ }
+{
+    if x < lowest {
+        return false;
+    }
+    x <= highest
+}
+
+// The deadline bound D.
+pub fn bound_right(bound: u32) -> bool
+    ensures { λ r. ⌜ r ≡ boundRight bound ⌝ }
+{
+    between(1, 6, bound)
+}
+
+// The count of speeds.
+pub fn speed_count_right(count: u32) -> bool
+    ensures { λ r. ⌜ r ≡ speedCountRight count ⌝ }
+{
+    between(2, 9, count)
+}
+
+// The speed at a place of the sheet, after the speed before it: the first is 0, each other is faster than the one before.
+pub fn speed_right(place: u32, before: u32, speed: u32) -> bool
+    ensures { λ r. ⌜ r ≡ speedRight place before speed ⌝ }
+{
+    if place == 0 {
+        return speed == 0;
+    }
+    if speed <= before {
+        return false;
+    }
+    speed <= 8
+}
+
+// The energy of a speed.
+pub fn energy_right(energy: u32) -> bool
+    ensures { λ r. ⌜ r ≡ energyRight energy ⌝ }
+{
+    energy <= 65535
+}
+
+// The horizon T.
+pub fn horizon_right(horizon: u32) -> bool
+    ensures { λ r. ⌜ r ≡ horizonRight horizon ⌝ }
+{
+    between(1, 200, horizon)
+}
+
+// The count of jobs.
+pub fn job_count_right(count: u32) -> bool
+    ensures { λ r. ⌜ r ≡ jobCountRight count ⌝ }
+{
+    between(1, 32, count)
+}
+
+// The weight of a job.
+pub fn weight_right(weight: u32) -> bool
+    ensures { λ r. ⌜ r ≡ weightRight weight ⌝ }
+{
+    between(1, 255, weight)
+}
+
+// The size of a job.
+pub fn size_right(size: u32) -> bool
+    ensures { λ r. ⌜ r ≡ sizeRight size ⌝ }
+{
+    size <= 255
+}
+
+// The deadline of a job of a sheet with this deadline bound.
+pub fn deadline_right(bound: u32, deadline: u32) -> bool
+    ensures { λ r. ⌜ r ≡ deadlineRight bound deadline ⌝ }
+{
+    between(1, bound, deadline)
+}

@@ -1,0 +1,137 @@
+// The number of a sheet in memory: the tests 4 to 10 in 01's field order.
+use crate::limits::limits_refusal;
+use crate::ranges::bound_right;
+use crate::ranges::speed_count_right;
+use crate::ranges::speed_right;
+use crate::ranges::energy_right;
+use crate::ranges::horizon_right;
+use crate::ranges::job_count_right;
+use crate::ranges::weight_right;
+use crate::ranges::size_right;
+use crate::ranges::deadline_right;
+use model::Speed;
+use model::Job;
+use model::Sheet;
+ghost use mathlib.Core.Path.{_≡_};
+ghost use Prim.Native.Nat.{pred, _≤_, _<_};
+ghost use Rattle.model.specs.Counted.{counted, speedAt, energyAt, weightAt, sizeAt, deadlineAt};
+ghost use Rattle.model.specs.Refusal.{refusalOfSpeed, refusalOfJob, speedsRefusal, jobsRefusal, fieldsRefusal, sheetRefusal};
+ghost use Rattle.queues.specs.Counts.{HoldsCounts};
+
+// The number of one speed with its energy, at a place of the sheet, after the speed before it: 0, 5 or 6.
+fn refusal_of_speed(place: u32, before: u32, one: Speed) -> u32
+    ensures { λ r. ⌜ r ≡ refusalOfSpeed place before (one .speed) (one .energy) ⌝ }
+{
+    if !speed_right(place, before, one.speed) {
+        return 5;
+    }
+    if !energy_right(one.energy) {
+        return 6;
+    }
+    0
+}
+
+// The number of the speed at a place.
+fn refusal_at_speed(sheet: Sheet, place: u32) -> u32
+    requires { ⌜ (place < sheet .«speed_count») × (sheet .«speed_count» ≤ 9) ⌝ }
+    ensures { λ r. ⌜ r ≡ refusalOfSpeed place (speedAt (counted sheet) (pred place)) (speedAt (counted sheet) place) (energyAt (counted sheet) place) ⌝ }
+{
+    let one = sheet.speeds[place as usize];
+    if place == 0 {
+        return refusal_of_speed(0, 0, one);
+    }
+    let before = sheet.speeds[place as usize - 1];
+    refusal_of_speed(place, before.speed, one)
+}
+
+// The number of the speeds: 0, or that of the first that is refused.
+fn speeds_refusal(sheet: Sheet) -> u32
+    requires { ⌜ sheet .«speed_count» ≤ 9 ⌝ }
+    ensures { λ r. ⌜ r ≡ speedsRefusal (counted sheet) (sheet .«speed_count») ⌝ }
+{
+    let mut place = 0;
+    while place < sheet.speed_count {
+        let number = refusal_at_speed(sheet, place);
+        if number != 0 {
+            return number;
+        }
+        place += 1;
+    }
+    0
+}
+
+// The number of one job of a sheet with this deadline bound: 0 or 8.
+fn refusal_of_job(bound: u32, one: Job) -> u32
+    ensures { λ r. ⌜ r ≡ refusalOfJob bound (one .weight) (one .size) (one .deadline) ⌝ }
+{
+    if !weight_right(one.weight) {
+        return 8;
+    }
+    if !size_right(one.size) {
+        return 8;
+    }
+    if !deadline_right(bound, one.deadline) {
+        return 8;
+    }
+    0
+}
+
+// The number of the job at a place.
+fn refusal_at_job(sheet: Sheet, place: u32) -> u32
+    requires { ⌜ (place < sheet .«job_count») × (sheet .«job_count» ≤ 32) ⌝ }
+    ensures { λ r. ⌜ r ≡ refusalOfJob (sheet .bound) (weightAt (counted sheet) place) (sizeAt (counted sheet) place) (deadlineAt (counted sheet) place) ⌝ }
+{
+    let one = sheet.jobs[place as usize];
+    refusal_of_job(sheet.bound, one)
+}
+
+// The number of the jobs: 0, or that of the first that is refused.
+fn jobs_refusal(sheet: Sheet) -> u32
+    requires { ⌜ sheet .«job_count» ≤ 32 ⌝ }
+    ensures { λ r. ⌜ r ≡ jobsRefusal (counted sheet) (sheet .«job_count») ⌝ }
+{
+    let mut place = 0;
+    while place < sheet.job_count {
+        let number = refusal_at_job(sheet, place);
+        if number != 0 {
+            return number;
+        }
+        place += 1;
+    }
+    0
+}
+
+// 4 to 8, the range of each field.
+fn fields_refusal(sheet: Sheet) -> u32
+    ensures { λ r. ⌜ r ≡ fieldsRefusal (counted sheet) ⌝ }
+{
+    if !bound_right(sheet.bound) {
+        return 4;
+    }
+    if !speed_count_right(sheet.speed_count) {
+        return 5;
+    }
+    let speeds = speeds_refusal(sheet);
+    if speeds != 0 {
+        return speeds;
+    }
+    if !horizon_right(sheet.horizon) {
+        return 7;
+    }
+    if !job_count_right(sheet.job_count) {
+        return 8;
+    }
+    jobs_refusal(sheet)
+}
+
+// The number of a sheet in memory, whatever stands in it.
+pub fn sheet_refusal(counts: &[u32; 2352], sheet: Sheet) -> u32
+    requires { ⌜ HoldsCounts (now counts) ⌝ }
+    ensures { λ r. ⌜ r ≡ sheetRefusal (counted sheet) ⌝ }
+{
+    let fields = fields_refusal(sheet);
+    if fields != 0 {
+        return fields;
+    }
+    limits_refusal(counts, sheet)
+}
