@@ -43,17 +43,17 @@ pub record Accepted (s : Counted) : Type 0 where
   pub queues-high : N s ≤ 65535
 
 -- a test and then others: where the number is 0, the test passes and the others' number is 0
-passed : (b : Bool) (number later : ℕ) → check b (suc number) then later ≡ 0 → T b × (later ≡ 0)
+pub passed : (b : Bool) (number later : ℕ) → check b (suc number) then later ≡ 0 → T b × (later ≡ 0)
 passed b number later e =
     (check-zero b number (then-left (check b (suc number)) later e), then-right (check b (suc number)) later e)
 
 -- a range that a test found right
-in-range : (lowest highest x : ℕ) → T (within lowest highest x) → (lowest ≤ x) × (x ≤ highest)
+pub in-range : (lowest highest x : ℕ) → T (within lowest highest x) → (lowest ≤ x) × (x ≤ highest)
 in-range lowest highest x t =
     (leb→le lowest x (and-left (leb lowest x) (leb x highest) t), leb→le x highest (and-right (leb lowest x) (leb x highest) t))
 
 -- a speed that a test found right after the one before it
-speed-next : (before speed : ℕ) → T (ltb before speed && leb speed 8) → (before < speed) × (speed ≤ 8)
+pub speed-next : (before speed : ℕ) → T (ltb before speed && leb speed 8) → (before < speed) × (speed ≤ 8)
 speed-next before speed t =
     (ltb→lt before speed (and-left (ltb before speed) (leb speed 8) t), leb→le speed 8 (and-right (ltb before speed) (leb speed 8) t))
 

@@ -133,7 +133,7 @@ readCounted queues = do
   jobs ← readJobTable D
   ended
   judged queues
-    (record { bound = D; speedCount = length speeds; speeds = speeds; horizon = T; jobCount = length jobs; jobs = jobs })
+      (record { bound = D; speedCount = length speeds; speeds = speeds; horizon = T; jobCount = length jobs; jobs = jobs })
 
 -- what a read answers, by the number and the sheet: "A refused read gives an all-zero sheet"
 

@@ -1,3 +1,4 @@
 pub mod Places
 pub mod Products
 pub mod Speeds
+pub mod Answers

@@ -1,17 +1,17 @@
 // The number of a sheet in memory: the tests 4 to 10 in 01's field order.
 use crate::limits::limits_refusal;
 use crate::ranges::bound_right;
-use crate::ranges::speed_count_right;
-use crate::ranges::speed_right;
+use crate::ranges::deadline_right;
 use crate::ranges::energy_right;
 use crate::ranges::horizon_right;
 use crate::ranges::job_count_right;
-use crate::ranges::weight_right;
 use crate::ranges::size_right;
-use crate::ranges::deadline_right;
-use model::Speed;
+use crate::ranges::speed_count_right;
+use crate::ranges::speed_right;
+use crate::ranges::weight_right;
 use model::Job;
 use model::Sheet;
+use model::Speed;
 ghost use mathlib.Core.Path.{_≡_};
 ghost use Prim.Native.Nat.{pred, _≤_, _<_};
 ghost use Rattle.model.specs.Counted.{counted, speedAt, energyAt, weightAt, sizeAt, deadlineAt};

@@ -41,10 +41,11 @@ loop-less c = omega arith
 loop-again : tie.Need-loop-again Inv-loop μ-loop
 loop-again c =
     let sheet = c .before .before .before .before .args .t1 in
-    let l = c .before .before .before .loop in
-    (omega arith,
-    greatest-next (energyAt (counted sheet)) (l .place) (l .inv .1)
-    (ap (λ (one : Speed). one .energy) (speed-counts sheet (l .place) (c .before .before .loop-test .taken))) (c .larger .ensures))
+    let l = c .before .before .before .loop in (
+      omega arith,
+      greatest-next (energyAt (counted sheet)) (l .place) (l .inv .1)
+          (ap (λ (one : Speed). one .energy) (speed-counts sheet (l .place) (c .before .before .loop-test .taken))) (c .larger .ensures),
+    )
 
 returns : tie.Need-returns Inv-loop μ-loop
 unfolding greatestEnergy

@@ -31,13 +31,14 @@ queue-count-requires : tie.Need-queue-count-requires
 queue-count-requires c κs =
     let start = c .before .before .before .before in
     let right = ranged (counted (start .args .sheet)) (start .pre .1) in
-    let most = c .before .largest .ensures in
-    (start .pre .0,
-    record {
-      speed-low = rw most (M-low (counted (start .args .sheet)) right);
-      speed-high = rw most (M-high (counted (start .args .sheet)) right);
-      bound-high = right .bound-high;
-    })
+    let most = c .before .largest .ensures in (
+      start .pre .0,
+      record {
+        speed-low = rw most (M-low (counted (start .args .sheet)) right);
+        speed-high = rw most (M-high (counted (start .args .sheet)) right);
+        bound-high = right .bound-high;
+      },
+    )
 
 returns-2 : tie.Need-returns-2
 unfolding limitsRefusal refusal9 N

@@ -47,9 +47,11 @@ loop-less c = omega arith
 loop-again : tie.Need-loop-again Inv-loop μ-loop
 loop-again c =
     let a = c .before .before .before .before .args in
-    let l = c .before .before .loop in
-    (omega arith, product-next (a .first) (a .by) (l .done) (l .inv .1),
-    product-room (a .by) (a .limit) (l .product) (c .before .before .before .before .pre) (c .if2 .left))
+    let l = c .before .before .loop in (
+      omega arith,
+      product-next (a .first) (a .by) (l .done) (l .inv .1),
+      product-room (a .by) (a .limit) (l .product) (c .before .before .before .before .pre) (c .if2 .left),
+    )
 
 returns-3 : tie.Need-returns-3 Inv-loop μ-loop
 returns-3 c =

@@ -36,10 +36,14 @@ add-all c =
     let sheet = c .before .before .before .before .args .t1 in
     let l = c .before .before .before .loop in
     let right = ranged (counted sheet) (c .before .before .before .before .pre) in
-    omega
-    (arith, l .inv .1, weights-high (counted sheet) right (l .place) (l .inv .0), right .jobs-high,
-    right .weight-high (l .place) (c .before .before .loop-test .taken),
-    ap (λ (one : Job). one .weight) (job-counts sheet (l .place) (c .before .before .loop-test .taken)))
+    omega (
+      arith,
+      l .inv .1,
+      weights-high (counted sheet) right (l .place) (l .inv .0),
+      right .jobs-high,
+      right .weight-high (l .place) (c .before .before .loop-test .taken),
+      ap (λ (one : Job). one .weight) (job-counts sheet (l .place) (c .before .before .loop-test .taken)),
+    )
 
 add-place : tie.Need-add-place Inv-loop μ-loop
 add-place c = omega arith
@@ -50,10 +54,11 @@ loop-less c = omega arith
 loop-again : tie.Need-loop-again Inv-loop μ-loop
 loop-again c =
     let sheet = c .before .before .before .before .args .t1 in
-    let l = c .before .before .before .loop in
-    (omega arith,
-    sum-next (weightAt (counted sheet)) (l .place) (l .inv .1)
-    (sym (ap (λ (one : Job). one .weight) (job-counts sheet (l .place) (c .before .before .loop-test .taken)))))
+    let l = c .before .before .before .loop in (
+      omega arith,
+      sum-next (weightAt (counted sheet)) (l .place) (l .inv .1)
+          (sym (ap (λ (one : Job). one .weight) (job-counts sheet (l .place) (c .before .before .loop-test .taken)))),
+    )
 
 returns : tie.Need-returns Inv-loop μ-loop
 unfolding W

@@ -1,27 +1,27 @@
+-- `sheet_refusal` meets its contract: the fields are tested first, then the limits.
+use mathlib.Core.Path.{sym, _∙_}
 use borrow.Author.Needs.{needs}
+use Rattle.model.proofs.Tests.{then-on, then-stops}
+use Rattle.model.specs.Refusal.{refusalGiven, sheetRefusal}
 use Rattle.sheets.proofs.refusal.sheet_refusal.Statement.{statement}
 use Rattle.sheets.proofs.refusal.sheet_refusal.Tie as tie
-use Rattle.sheets.proofs.refusal.sheet_refusal.Reads as reads
-use Rattle.sheets.proofs.refusal.sheet_refusal.Lts as lts
-use Rattle.sheets.proofs.limits.limits_refusal.Reads as limits-refusal-reads
-use Rattle.sheets.proofs.refusal.fields_refusal.Reads as fields-refusal-reads
 
--- src/refusal.rt:132:9
 fields-refusal-requires : tie.Need-fields-refusal-requires
 fields-refusal-requires c κs = search needs
 
--- src/refusal.rt:134:9
 returns : tie.Need-returns
-returns c = ?
+unfolding sheetRefusal refusalGiven
+returns c =
+    let fields = c .before .fields-refusal .ensures in
+    fields ∙ sym (then-stops _ _ (λ e. c .if1 .taken (fields ∙ e)))
 
--- src/refusal.rt:136:5
 limits-refusal-requires : tie.Need-limits-refusal-requires
-limits-refusal-requires c κs = search needs
+limits-refusal-requires c κs = (c .before .before .pre, sym (c .before .fields-refusal .ensures) ∙ c .if1 .left)
 
--- src/refusal.rt:128:1
 returns-2 : tie.Need-returns-2
-returns-2 c = ?
+unfolding sheetRefusal refusalGiven
+returns-2 c =
+    c .limits-refusal .ensures ∙ sym (then-on _ _ (sym (c .before .before .fields-refusal .ensures) ∙ c .before .if1 .left))
 
 pub sheet-refusal-spec : {M : Type 1} → statement M
-sheet-refusal-spec =
-    tie.close (tie.spec fields-refusal-requires returns limits-refusal-requires returns-2)
+sheet-refusal-spec = tie.close (tie.spec fields-refusal-requires returns limits-refusal-requires returns-2)
