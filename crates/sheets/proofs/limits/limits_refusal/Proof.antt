@@ -3,12 +3,13 @@ use Prim.Native.Nat.{ℕ}
 use mathlib.Core.Path.{sym, ap, _∙_}
 use native.Mathlib.Omega.{arith}
 use borrow.Author.Needs.{needs}
-use borrow.Author.Tests.{not-true, not-false, le-leb, lt-leb}
+use borrow.Author.Tests.{le-leb, lt-leb}
 use Rattle.model.proofs.Tests.{then-passes, then-fails, check-true, check-false}
 use Rattle.model.proofs.Refusal.{ranged, M-low, M-high}
 use Rattle.model.specs.Counted.{counted}
 use Rattle.model.specs.Queue.{queueCount}
 use Rattle.model.specs.Refusal.{limitsRefusal, refusal9, N}
+use Rattle.sheets.proofs.Answers.{passed-by, failed-by}
 use Rattle.sheets.proofs.limits.limits_refusal.Statement.{statement}
 use Rattle.sheets.proofs.limits.limits_refusal.Tie as tie
 
@@ -19,7 +20,7 @@ returns : tie.Need-returns
 unfolding limitsRefusal refusal9
 returns c =
     let f = c .before .value-fits in
-    sym (then-fails _ 8 _ (sym (f .ensures) ∙ not-true (f .result) (c .if1 .taken)))
+    sym (then-fails _ 8 _ (failed-by (f .ensures) (c .if1 .taken)))
 
 largest-requires : tie.Need-largest-requires
 largest-requires c κs = search needs
@@ -47,7 +48,7 @@ returns-2 c =
     let f = c .before .before .before .before .before .value-fits in
     let queues = c .before .queue-count .ensures ∙ ap (λ (m : ℕ). queueCount m (s .bound)) (c .before .before .before .largest .ensures) in
     sym
-    (then-passes _ 9 _ (sym (f .ensures) ∙ not-false (f .result) (c .before .before .before .before .if1 .left)) ∙
+    (then-passes _ 9 _ (passed-by (f .ensures) (c .before .before .before .before .if1 .left)) ∙
     check-false _ 10 (lt-leb (N s) 65535 (rw queues at (c .if2 .taken))))
 
 returns-3 : tie.Need-returns-3
@@ -57,7 +58,7 @@ returns-3 c =
     let f = c .before .before .before .before .before .value-fits in
     let queues = c .before .queue-count .ensures ∙ ap (λ (m : ℕ). queueCount m (s .bound)) (c .before .before .before .largest .ensures) in
     sym
-    (then-passes _ 9 _ (sym (f .ensures) ∙ not-false (f .result) (c .before .before .before .before .if1 .left)) ∙
+    (then-passes _ 9 _ (passed-by (f .ensures) (c .before .before .before .before .if1 .left)) ∙
     check-true _ 10 (le-leb (N s) 65535 (rw queues at (c .if2 .left))))
 
 pub limits-refusal-spec : {M : Type 1} → statement M

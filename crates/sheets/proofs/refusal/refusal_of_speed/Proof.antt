@@ -1,8 +1,8 @@
 -- `refusal_of_speed` meets its contract: the speed is tested, then its energy.
 use mathlib.Core.Path.{sym, _∙_}
 use borrow.Author.Needs.{needs}
-use borrow.Author.Tests.{not-true, not-false}
 use Rattle.model.proofs.Tests.{then-passes, then-fails, check-true, check-false}
+use Rattle.sheets.proofs.Answers.{passed-by, failed-by}
 use Rattle.sheets.proofs.refusal.refusal_of_speed.Statement.{statement}
 use Rattle.sheets.proofs.refusal.refusal_of_speed.Tie as tie
 
@@ -12,7 +12,7 @@ speed-right-requires c κs = search needs
 returns : tie.Need-returns
 returns c =
     let speed = c .before .speed-right in
-    sym (then-fails _ 4 _ (sym (speed .ensures) ∙ not-true (speed .result) (c .if1 .taken)))
+    sym (then-fails _ 4 _ (failed-by (speed .ensures) (c .if1 .taken)))
 
 energy-right-requires : tie.Need-energy-right-requires
 energy-right-requires c κs = search needs
@@ -22,16 +22,16 @@ returns-2 c =
     let speed = c .before .before .before .speed-right in
     let energy = c .before .energy-right in
     sym
-    (then-passes _ 5 _ (sym (speed .ensures) ∙ not-false (speed .result) (c .before .before .if1 .left)) ∙
-    check-false _ 6 (sym (energy .ensures) ∙ not-true (energy .result) (c .if2 .taken)))
+    (then-passes _ 5 _ (passed-by (speed .ensures) (c .before .before .if1 .left)) ∙
+    check-false _ 6 (failed-by (energy .ensures) (c .if2 .taken)))
 
 returns-3 : tie.Need-returns-3
 returns-3 c =
     let speed = c .before .before .before .speed-right in
     let energy = c .before .energy-right in
     sym
-    (then-passes _ 5 _ (sym (speed .ensures) ∙ not-false (speed .result) (c .before .before .if1 .left)) ∙
-    check-true _ 6 (sym (energy .ensures) ∙ not-false (energy .result) (c .if2 .left)))
+    (then-passes _ 5 _ (passed-by (speed .ensures) (c .before .before .if1 .left)) ∙
+    check-true _ 6 (passed-by (energy .ensures) (c .if2 .left)))
 
 pub refusal-of-speed-spec : {M : Type 1} → statement M
 refusal-of-speed-spec =
