@@ -3,6 +3,9 @@ pub mod Tests
 pub mod Counted
 pub mod Queues
 pub mod Refusal
+pub mod Readers
+pub mod Codes
+pub mod RoundTrip
 pub mod Admissible
 pub mod Longer
 pub mod Leaves

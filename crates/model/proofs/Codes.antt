@@ -1,0 +1,148 @@
+-- One number's code (specs/Bytes.antt) and its reading (specs/Reading.antt) undo each other; the length of the code, and that it is bytes.
+use Prim.Native.Nat.{ℕ, zero, suc, _+_, _*_, _-_, _^_, _%_, _/_, _≤_, _<_}
+use mathlib.Core.Path.{_≡_, refl}
+use mathlib.Core.Bool.{Bool, true, false, cond}
+use mathlib.Core.List.{List, [], _∷_, _++_}
+use native.Mathlib.Nat.{zero-lt-suc, pow-suc, pow-zero, one-le-pow, mod-lt, div-lt-iff-lt-mul, le-div-iff-mul-le, mod-add-div}
+use native.Mathlib.Numerals.{add-one}
+use native.Mathlib.Omega.{arith}
+use borrow.Author.Tests.{ltb-true, ltb-false, leb-false, eqb-false, le-ltb, lt-leb, ne-eqb}
+use lib.Dec.{leb, ltb, eqb, ltb→lt, lt→ltb}
+use lib.ListN.{length, getD, take, length-append}
+use lib.Seq.{take-suc, append-snoc, getD-append-seam}
+use Rattle.model.specs.Bytes.{AreBytes, codeIn, code}
+use Rattle.model.specs.Reading.{Answer, value, refused, joined, numberIn, field}
+use Rattle.model.proofs.Readers.{refused-no-value}
+use Rattle.model.proofs.Tests.{same-test}
+
+-- from a code to its reading
+
+-- a number that n bytes can hold, and of which some byte is left, is read where its code stands
+abbrev Reads : ℕ → List ℕ → List ℕ → ℕ → Type 0
+Reads n before rest x =
+    x < 128 ^ n → 1 ≤ x + n →
+    numberIn n (before ++ (codeIn n x ++ rest)) (length before) ≡ value x (length before + length (codeIn n x))
+
+-- so it is for every n, by the first byte and the number that the others are
+number-code : (n : ℕ) (before rest : List ℕ) (x : ℕ) → Reads n before rest x
+unfolding numberIn codeIn
+number-code zero before rest x h k = absurd (omega (arith, rw pow-zero at h))
+number-code (suc n) before rest x h k = go (number-code n (before ++ ((128 + x % 128) ∷ [])) rest (x / 128)) (ltb x 128) refl
+  where
+    inside : (c : ℕ) (t : List ℕ) → leb (length (before ++ c ∷ t)) (length before) ≡ false
+    inside c t = lt-leb (length (before ++ c ∷ t)) (length before) (simp length-append (omega arith))
+
+    go : Reads n (before ++ ((128 + x % 128) ∷ [])) rest (x / 128) → (b : Bool) → ltb x 128 ≡ b →
+        numberIn (suc n) (before ++ (codeIn (suc n) x ++ rest)) (length before) ≡ value x (length before + length (codeIn (suc n) x))
+    go ih true small = rw (small, inside x rest, getD-append-seam before x rest 0, small, add-one)
+    go ih false large =
+        let c = 128 + x % 128 in
+        let high : 1 ≤ x / 128 = le-div-iff-mul-le (zero-lt-suc 127) .1 (ltb-false x 128 large) in
+        let below : x / 128 < 128 ^ n = div-lt-iff-lt-mul (zero-lt-suc 127) .1 (rw pow-suc at h) in
+        let whole : c - 128 + 128 * (x / 128) ≡ x = omega (arith, mod-add-div x 128) in
+        let t = codeIn n (x / 128) ++ rest in
+        let next : length before + suc (length (codeIn n (x / 128))) ≡ suc (length before) + length (codeIn n (x / 128)) = omega arith in
+        rw (
+          large,
+          inside c t,
+          getD-append-seam before c t 0,
+          le-ltb c 128 (omega arith),
+          simp (append-snoc, length-append, add-one) at (ih below (omega arith)),
+          ne-eqb (x / 128) 0 (λ q. omega arith),
+          whole,
+          next,
+        )
+
+-- the code of a number, wherever it stands, is read as that number
+pub field-code : (before rest : List ℕ) (x : ℕ) → x < 128 ^ 3 →
+    field (before ++ (code x ++ rest)) (length before) ≡ value x (length before + length (code x))
+field-code before rest x h = number-code 3 before rest x h (omega arith)
+
+-- from a reading to the code
+
+-- a choice between a refusal and an answer that gave a value is the answer
+chosen : (b : Bool) (k : ℕ) (r : Answer ℕ) (x next : ℕ) → cond b (refused k) r ≡ value x next → (b ≡ false) × (r ≡ value x next)
+chosen true k r x next e = absurd (refused-no-value e)
+chosen false k r x next e = (refl, e)
+
+-- a group joined to what the rest is gave a value: the rest gave one, not 0
+joined-gave : (low : ℕ) (r : Answer ℕ) (x next : ℕ) → joined low r ≡ value x next →
+    (high : ℕ) × (r ≡ value high next) × (1 ≤ high) × (x ≡ low + 128 * high)
+joined-gave low (refused k) x next e = absurd (refused-no-value e)
+joined-gave low (value high mid) x next e =
+    let c = chosen (eqb high 0) 2 (value (low + 128 * high) mid) x next e in
+    (high, cc, omega (arith, eqb-false high 0 (c .0)), cc)
+
+-- x stands in code of at most n bytes from the place `at` to `next`
+abbrev InCode : ℕ → List ℕ → ℕ → ℕ → ℕ → Type 0
+InCode n bytes at x next = (take next bytes ≡ take at bytes ++ codeIn n x) × (x < 128 ^ n)
+
+-- a number read in at most n bytes stands there in code
+number-bytes : (n : ℕ) (bytes : List ℕ) → AreBytes bytes → (at x next : ℕ) → numberIn n bytes at ≡ value x next → InCode n bytes at x next
+unfolding numberIn codeIn
+number-bytes zero bytes all at x next e = absurd (refused-no-value e)
+number-bytes (suc n) bytes all at x next e =
+    let inside = chosen (leb (length bytes) at) 1 _ x next e in
+    go (leb-false (length bytes) at (inside .0)) (number-bytes n bytes all (suc at)) (ltb (getD bytes at 0) 128) refl (inside .1)
+  where
+    go : at < length bytes → ((y mid : ℕ) → numberIn n bytes (suc at) ≡ value y mid → InCode n bytes (suc at) y mid) →
+        (b : Bool) → ltb (getD bytes at 0) 128 ≡ b →
+        cond b (value (getD bytes at 0) (suc at)) (joined (getD bytes at 0 - 128) (numberIn n bytes (suc at))) ≡ value x next →
+        InCode (suc n) bytes at x next
+    go l ih true small e =
+        let d : x ≡ getD bytes at 0 = cc in
+        let m : next ≡ suc at = cc in (
+          rw (m, d, small) (take-suc bytes at 0 l),
+          rw pow-suc (omega (arith, ltb-true (getD bytes at 0) 128 small, one-le-pow n 128 (zero-lt-suc 127))),
+        )
+    go l ih false large e =
+        let j = joined-gave (getD bytes at 0 - 128) (numberIn n bytes (suc at)) x next e in
+        let s = ih (j .0) next (j .1) in
+        let k = ltb-false (getD bytes at 0) 128 large in
+        let d : x / 128 ≡ j .0 = omega (arith, mod-add-div x 128, mod-lt x (zero-lt-suc 127), all at) in
+        let m : 128 + x % 128 ≡ getD bytes at 0 = omega (arith, mod-add-div x 128) in (
+          rw (le-ltb x 128 (omega arith), m, d, s .0, take-suc bytes at 0 l)
+              (append-snoc (take at bytes) (getD bytes at 0) (codeIn n (j .0))),
+          rw pow-suc (omega arith),
+        )
+
+-- what was read is what stands there in code
+pub field-bytes : (bytes : List ℕ) → AreBytes bytes → (at x next : ℕ) → field bytes at ≡ value x next →
+    (take next bytes ≡ take at bytes ++ code x) × (x < 128 ^ 3)
+field-bytes bytes all at x next e = number-bytes 3 bytes all at x next e
+
+-- the length of the code, and its bytes
+
+-- one, two or three bytes, by two choices; a third does not change the length
+lengths : (a b c : Bool) (u v w x y z : ℕ) →
+    length (cond a (u ∷ []) (v ∷ cond b (w ∷ []) (x ∷ cond c (y ∷ []) (z ∷ [])))) ≡ cond a 1 (cond b 2 3)
+lengths true b c u v w x y z = refl
+lengths false true c u v w x y z = refl
+lengths false false true u v w x y z = refl
+lengths false false false u v w x y z = refl
+
+-- a number below 128 has one byte, one below 128 * 128 two, and any other three
+pub length-code : (x : ℕ) → length (code x) ≡ cond (ltb x 128) 1 (cond (ltb x 16384) 2 3)
+unfolding codeIn
+length-code x =
+    let two : ltb (x / 128) 128 ≡ ltb x 16384 =
+    same-test (ltb (x / 128) 128) (ltb x 16384)
+    (λ t. lt→ltb x 16384 (div-lt-iff-lt-mul (zero-lt-suc 127) .0 (ltb→lt (x / 128) 128 t)))
+    (λ t. lt→ltb (x / 128) 128 (div-lt-iff-lt-mul (zero-lt-suc 127) .1 (ltb→lt x 16384 t))) in
+    rw (← two) (lengths (ltb x 128) (ltb (x / 128) 128) (ltb (x / 128 / 128) 128) _ _ _ _ _ _)
+
+-- a code of at most n bytes is bytes
+code-in-bytes : (n x : ℕ) → AreBytes (codeIn n x)
+unfolding codeIn
+code-in-bytes zero x i = omega arith
+code-in-bytes (suc n) x i = go (code-in-bytes n (x / 128)) (ltb x 128) refl i
+  where
+    go : AreBytes (codeIn n (x / 128)) → (b : Bool) → ltb x 128 ≡ b → AreBytes (cond b (x ∷ []) ((128 + x % 128) ∷ codeIn n (x / 128)))
+    go ih true e zero = omega (arith, ltb-true x 128 e)
+    go ih true e (suc i) = omega arith
+    go ih false e zero = omega (arith, mod-lt x (zero-lt-suc 127))
+    go ih false e (suc i) = ih i
+
+-- a number's code is bytes
+pub code-bytes : (x : ℕ) → AreBytes (code x)
+code-bytes x = code-in-bytes 3 x
