@@ -1,7 +1,10 @@
-// The range of each field of a sheet. The reader tests a field by these as it comes, the tests of a sheet in memory where it stands.
+// The range of each field of a sheet. The reader tests a field by these as it comes, the tests of a sheet in memory where it stands; and
+// the number of one speed and of one job.
+use model::Job;
+use model::Speed;
 ghost use mathlib.Core.Path.{_≡_};
 ghost use Rattle.model.specs.Tests.{within};
-ghost use Rattle.model.specs.Refusal.{boundRight, speedCountRight, speedRight, energyRight, horizonRight, jobCountRight, weightRight, sizeRight, deadlineRight};
+ghost use Rattle.model.specs.Refusal.{boundRight, speedCountRight, speedRight, energyRight, horizonRight, jobCountRight, weightRight, sizeRight, deadlineRight, refusalOfSpeed, refusalOfJob};
 
 // Whether a number is one of those from the lowest to the highest.
 fn between(lowest: u32, highest: u32, x: u32) -> bool
@@ -80,4 +83,35 @@ pub fn deadline_right(bound: u32, deadline: u32) -> bool
     ensures { λ r. ⌜ r ≡ deadlineRight bound deadline ⌝ }
 {
     between(1, bound, deadline)
+}
+
+// The number of one speed with its energy, at a place of the sheet, after the speed before it: 0, 5 or 6.
+pub fn refusal_of_speed(place: u32, before: u32, one: Speed) -> u32
+    ensures { λ r. ⌜ r ≡ refusalOfSpeed place before (one .speed) (one .energy) ⌝ }
+{
+    let speed_fits = speed_right(place, before, one.speed);
+    let energy_fits = energy_right(one.energy);
+    if !speed_fits {
+        return 5;
+    }
+    if !energy_fits {
+        return 6;
+    }
+    0
+}
+
+// The number of one job of a sheet with this deadline bound: 0 or 8.
+pub fn refusal_of_job(bound: u32, one: Job) -> u32
+    ensures { λ r. ⌜ r ≡ refusalOfJob bound (one .weight) (one .size) (one .deadline) ⌝ }
+{
+    if !weight_right(one.weight) {
+        return 8;
+    }
+    if !size_right(one.size) {
+        return 8;
+    }
+    if !deadline_right(bound, one.deadline) {
+        return 8;
+    }
+    0
 }

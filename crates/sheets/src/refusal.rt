@@ -1,14 +1,11 @@
 // The number of a sheet in memory: the tests 4 to 10 in 01's field order.
 use crate::limits::limits_refusal;
 use crate::ranges::bound_right;
-use crate::ranges::deadline_right;
-use crate::ranges::energy_right;
 use crate::ranges::horizon_right;
 use crate::ranges::job_count_right;
-use crate::ranges::size_right;
+use crate::ranges::refusal_of_job;
+use crate::ranges::refusal_of_speed;
 use crate::ranges::speed_count_right;
-use crate::ranges::speed_right;
-use crate::ranges::weight_right;
 use model::Job;
 use model::Sheet;
 use model::Speed;
@@ -17,19 +14,6 @@ ghost use Prim.Native.Nat.{pred, _≤_, _<_};
 ghost use Rattle.model.specs.Counted.{counted, speedAt, energyAt, weightAt, sizeAt, deadlineAt};
 ghost use Rattle.model.specs.Refusal.{refusalOfSpeed, refusalOfJob, speedsRefusal, jobsRefusal, fieldsRefusal, sheetRefusal};
 ghost use Rattle.queues.specs.Counts.{HoldsCounts};
-
-// The number of one speed with its energy, at a place of the sheet, after the speed before it: 0, 5 or 6.
-fn refusal_of_speed(place: u32, before: u32, one: Speed) -> u32
-    ensures { λ r. ⌜ r ≡ refusalOfSpeed place before (one .speed) (one .energy) ⌝ }
-{
-    if !speed_right(place, before, one.speed) {
-        return 5;
-    }
-    if !energy_right(one.energy) {
-        return 6;
-    }
-    0
-}
 
 // The number of the speed at a place.
 fn refusal_at_speed(sheet: Sheet, place: u32) -> u32
@@ -56,22 +40,6 @@ fn speeds_refusal(sheet: Sheet) -> u32
             return number;
         }
         place += 1;
-    }
-    0
-}
-
-// The number of one job of a sheet with this deadline bound: 0 or 8.
-fn refusal_of_job(bound: u32, one: Job) -> u32
-    ensures { λ r. ⌜ r ≡ refusalOfJob bound (one .weight) (one .size) (one .deadline) ⌝ }
-{
-    if !weight_right(one.weight) {
-        return 8;
-    }
-    if !size_right(one.size) {
-        return 8;
-    }
-    if !deadline_right(bound, one.deadline) {
-        return 8;
     }
     0
 }

@@ -3,8 +3,8 @@ use mathlib.Core.Path.{sym, _∙_}
 use borrow.Author.Needs.{needs}
 use Rattle.model.proofs.Tests.{then-passes, then-fails, check-true, check-false}
 use Rattle.sheets.proofs.Answers.{passed-by, failed-by}
-use Rattle.sheets.proofs.refusal.refusal_of_job.Statement.{statement}
-use Rattle.sheets.proofs.refusal.refusal_of_job.Tie as tie
+use Rattle.sheets.proofs.ranges.refusal_of_job.Statement.{statement}
+use Rattle.sheets.proofs.ranges.refusal_of_job.Tie as tie
 
 weight-right-requires : tie.Need-weight-right-requires
 weight-right-requires c κs = search needs
