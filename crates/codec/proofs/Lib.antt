@@ -1,2 +1,4 @@
 pub mod Groups
+pub mod Steps
+pub mod Rows
 pub mod Stages

@@ -51,9 +51,10 @@ number-in-add-t12 t c = omega arith
 number-in-returns-3 : (t : ℕ) → number-in-lts.Need-returns-3 (calls t) (number-in-at t) number-in.Post
 number-in-returns-3 t c =
     let a = c .before .before .before .before .before .before .args in
-    let some = c .before .before .before .before .if1 .left in
-    (last-byte (a .most) (now (a .bytes)) (a .at) some (c .before .before .before .if2 .left) (c .before .wide .ensures .0) (c .if3 .taken),
-    one-below (a .most) (c .before .wide .result) some (c .if3 .taken))
+    let some = c .before .before .before .before .if1 .left in (
+      last-byte (a .most) (now (a .bytes)) (a .at) some (c .before .before .before .if2 .left) (c .before .wide .ensures .0) (c .if3 .taken),
+      one-below (a .most) (c .before .wide .result) some (c .if3 .taken),
+    )
 
 number-in-sub-number-in : (t : ℕ) → number-in-lts.Need-sub-number-in (calls t) (number-in-at t) number-in.Post
 number-in-sub-number-in t c = omega (arith, nonzero (c .before .before .before .before .before .before .args .most) (c .before .before .before .before .if1 .left))
@@ -62,7 +63,7 @@ number-in-add-number-in : (t : ℕ) → number-in-lts.Need-add-number-in (calls 
 number-in-add-number-in t c = omega arith
 
 number-in-number-in-requires : (t : ℕ) → number-in-lts.Need-number-in-requires (calls t) (number-in-at t) number-in.Post
-number-in-number-in-requires t c κs = 
+number-in-number-in-requires t c κs =
     let some = nonzero (c .before .before .before .before .before .before .args .most) (c .before .before .before .before .if1 .left) in
     let here = c .before .before .before .before .before .before .pre .0 in
     (omega (arith, some, here), omega (arith, c .before .before .before .before .before .before .pre .1))
@@ -77,11 +78,12 @@ number-in-returns-4 : (t : ℕ) → number-in-lts.Need-returns-4 (calls t) (numb
 number-in-returns-4 t c =
     let a = c .before .before .before .before .before .before .before .before .before .args in
     let rest = c .before .before .number-in in
-    let told = ap fieldAnswer (c .enum-told .given .1) in
-    (told ∙
-    more-bytes (a .most) (now (a .bytes)) (a .at) (c .before .before .before .before .before .before .before .if1 .left) (c .before .before .before .before .before .before .if2 .left) (c .before .before .before .before .wide .ensures .0) (c .before .before .before .if3 .left)
-    (sym told ∙ rest .ensures .0),
-    subst (Below (a .most)) (sym told) tt)
+    let told = ap fieldAnswer (c .enum-told .given .1) in (
+      told ∙
+          more-bytes (a .most) (now (a .bytes)) (a .at) (c .before .before .before .before .before .before .before .if1 .left) (c .before .before .before .before .before .before .if2 .left) (c .before .before .before .before .wide .ensures .0) (c .before .before .before .if3 .left)
+          (sym told ∙ rest .ensures .0),
+      subst (Below (a .most)) (sym told) tt,
+    )
 
 number-in-returns-5 : (t : ℕ) → number-in-lts.Need-returns-5 (calls t) (number-in-at t) number-in.Post
 number-in-returns-5 t c =

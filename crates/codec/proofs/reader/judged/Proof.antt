@@ -16,9 +16,10 @@ refused-requires c κs = search needs
 
 returns : tie.Need-returns
 returns c =
-    let given = c .refused .ensures in
-    (given .0 ∙ c .before .before .limits-refusal .ensures,
-    given-zero (c .before .before .before .before .before .args .sheet) (given .0) (c .before .if1 .taken) (given .1))
+    let given = c .refused .ensures in (
+      given .0 ∙ c .before .before .limits-refusal .ensures,
+      given-zero (c .before .before .before .before .before .args .sheet) (given .0) (c .before .if1 .taken) (given .1),
+    )
 
 returns-2 : tie.Need-returns-2
 returns-2 c = search needs

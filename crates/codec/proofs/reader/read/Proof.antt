@@ -30,11 +30,26 @@ use Rattle.sheets.proofs.bound_right.Reads as bound-right-reads
 use Rattle.sheets.proofs.horizon_right.Reads as horizon-right-reads
 
 abbrev calls : lts.Claims
-calls =
-    (field-at-reads.Asked, field-at-reads.Learnt, number-of-reads.Asked, number-of-reads.Learnt, refused-reads.Asked, refused-reads.Learnt,
-    bound-right-reads.Asked, bound-right-reads.Learnt, speed-table-at-reads.Asked, speed-table-at-reads.Learnt,
-    horizon-right-reads.Asked, horizon-right-reads.Learnt, job-table-at-reads.Asked, job-table-at-reads.Learnt, whole-reads.Asked, whole-reads.Learnt,
-    judged-reads.Asked, judged-reads.Learnt)
+calls = (
+  field-at-reads.Asked,
+  field-at-reads.Learnt,
+  number-of-reads.Asked,
+  number-of-reads.Learnt,
+  refused-reads.Asked,
+  refused-reads.Learnt,
+  bound-right-reads.Asked,
+  bound-right-reads.Learnt,
+  speed-table-at-reads.Asked,
+  speed-table-at-reads.Learnt,
+  horizon-right-reads.Asked,
+  horizon-right-reads.Learnt,
+  job-table-at-reads.Asked,
+  job-table-at-reads.Learnt,
+  whole-reads.Asked,
+  whole-reads.Learnt,
+  judged-reads.Asked,
+  judged-reads.Learnt,
+)
 
 -- what is known where the deadline bound was read and is in range
 
