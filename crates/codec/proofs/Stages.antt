@@ -17,30 +17,7 @@ use Rattle.model.proofs.Refusal.{ranged}
 use Rattle.model.proofs.RoundTrip.{counted-in-memory}
 use Rattle.codec.specs.Answers.{numberOf, tableAnswer, inMemoryAs, speedPlaces, jobPlaces, sheetGiven}
 use Rattle.codec.specs.Calls.{IsRead}
-
--- a field, its own range, and what comes after
-
-abbrev afterTest : {B : Type 0} → (ℕ → Bool) → ℕ → (ℕ → Reader B) → ℕ → Reader B
-afterTest right number more x = _>>_ (test (right x) number) (more x)
-
-abbrev pub tested : {B : Type 0} → (ℕ → Bool) → ℕ → (ℕ → Reader B) → Reader B
-tested right number more = _>>=_ field (afterTest right number more)
-
-pub field-refused : {B : Type 0} (right : ℕ → Bool) (number : ℕ) (more : ℕ → Reader B) (bytes : List ℕ) (at : ℕ) {k : ℕ} →
-    field bytes at ≡ refused k → tested right number more bytes at ≡ refused k
-field-refused right number more bytes at e = bind-refused field (afterTest right number more) bytes at e
-
-pub range-fails : {B : Type 0} (right : ℕ → Bool) (number : ℕ) (more : ℕ → Reader B) (bytes : List ℕ) (at : ℕ) {x next : ℕ} →
-    field bytes at ≡ value x next → right x ≡ false → tested right number more bytes at ≡ refused number
-range-fails right number more bytes at {x = x} {next = next} e wrong =
-    bind-value field (afterTest right number more) bytes at e ∙
-    after-refused (test (right x) number) (more x) bytes next (test-fails (right x) number bytes next wrong)
-
-pub range-passes : {B : Type 0} (right : ℕ → Bool) (number : ℕ) (more : ℕ → Reader B) (bytes : List ℕ) (at : ℕ) {x next : ℕ} →
-    field bytes at ≡ value x next → right x ≡ true → tested right number more bytes at ≡ more x bytes next
-range-passes right number more bytes at {x = x} {next = next} e fine =
-    bind-value field (afterTest right number more) bytes at e ∙
-    after-value (test (right x) number) (more x) bytes next (test-passes (right x) number bytes next fine)
+use Rattle.codec.proofs.Steps.{Tests}
 
 -- what is left to read, after each stage
 
@@ -49,22 +26,63 @@ abbrev pub sheetOf : ℕ → List Speed → ℕ → List Job → Counted
 sheetOf D speeds T jobs =
     record { bound = D; speedCount = length speeds; speeds = speeds; horizon = T; jobCount = length jobs; jobs = jobs }
 
-abbrev pub atEnd : ℕ → List Speed → ℕ → List Job → Reader Counted
-atEnd D speeds T jobs = _>>_ ended (judged N (sheetOf D speeds T jobs))
+-- after the table of jobs
+unfoldable pub atEnd : ℕ → List Speed → ℕ → List Job → Reader Counted
+atEnd D speeds T jobs = do
+  ended
+  judged N (sheetOf D speeds T jobs)
 
-abbrev pub fromJobs : ℕ → List Speed → ℕ → Reader Counted
-fromJobs D speeds T = _>>=_ (readJobTable D) (atEnd D speeds T)
+-- after the horizon
+unfoldable pub fromJobs : ℕ → List Speed → ℕ → Reader Counted
+fromJobs D speeds T = do
+  jobs ← readJobTable D
+  atEnd D speeds T jobs
 
-abbrev pub fromHorizon : ℕ → List Speed → Reader Counted
-fromHorizon D speeds = tested horizonRight 7 (fromJobs D speeds)
+-- after the table of speeds
+unfoldable pub fromHorizon : ℕ → List Speed → Reader Counted
+fromHorizon D speeds = do
+  T ← field
+  test (horizonRight T) 7
+  fromJobs D speeds T
 
-abbrev pub fromSpeeds : ℕ → Reader Counted
-fromSpeeds D = _>>=_ readSpeedTable (fromHorizon D)
+-- after the deadline bound
+unfoldable pub fromSpeeds : ℕ → Reader Counted
+fromSpeeds D = do
+  speeds ← readSpeedTable
+  fromHorizon D speeds
 
--- all of it
-pub whole-read : (bytes : List ℕ) (at : ℕ) → readCounted N bytes at ≡ tested boundRight 4 fromSpeeds bytes at
-unfolding readCounted
-whole-read bytes at = refl
+-- a read begins with the deadline bound
+pub at-bound : Tests (readCounted N) boundRight 4 fromSpeeds
+unfolding readCounted fromSpeeds fromHorizon fromJobs atEnd
+at-bound = record { is = refl }
+
+-- the table of speeds follows
+
+pub speeds-refused : (D : ℕ) (bytes : List ℕ) (at : ℕ) {k : ℕ} → readSpeedTable bytes at ≡ refused k → fromSpeeds D bytes at ≡ refused k
+unfolding fromSpeeds
+speeds-refused D bytes at e = bind-refused readSpeedTable (fromHorizon D) bytes at e
+
+pub speeds-come : (D : ℕ) (bytes : List ℕ) (at : ℕ) {next : ℕ} {speeds : List Speed} →
+    readSpeedTable bytes at ≡ value speeds next → fromSpeeds D bytes at ≡ fromHorizon D speeds bytes next
+unfolding fromSpeeds
+speeds-come D bytes at e = bind-value readSpeedTable (fromHorizon D) bytes at e
+
+-- then the horizon
+pub at-horizon : (D : ℕ) (speeds : List Speed) → Tests (fromHorizon D speeds) horizonRight 7 (fromJobs D speeds)
+unfolding fromHorizon
+at-horizon D speeds = record { is = refl }
+
+-- then the table of jobs
+
+pub jobs-refused : (D : ℕ) (speeds : List Speed) (T : ℕ) (bytes : List ℕ) (at : ℕ) {k : ℕ} →
+    readJobTable D bytes at ≡ refused k → fromJobs D speeds T bytes at ≡ refused k
+unfolding fromJobs
+jobs-refused D speeds T bytes at e = bind-refused (readJobTable D) (atEnd D speeds T) bytes at e
+
+pub jobs-come : (D : ℕ) (speeds : List Speed) (T : ℕ) (bytes : List ℕ) (at : ℕ) {next : ℕ} {jobs : List Job} →
+    readJobTable D bytes at ≡ value jobs next → fromJobs D speeds T bytes at ≡ atEnd D speeds T jobs bytes next
+unfolding fromJobs
+jobs-come D speeds T bytes at e = bind-value (readJobTable D) (atEnd D speeds T) bytes at e
 
 -- the answers of a read: refused, and judged
 
@@ -78,6 +96,7 @@ read-refused bytes e n z =
 
 pub bytes-follow : (bytes : List ℕ) (at D T : ℕ) (speeds : List Speed) (jobs : List Job) → at < length bytes →
     atEnd D speeds T jobs bytes at ≡ refused 3
+unfolding atEnd
 bytes-follow bytes at D T speeds jobs h = after-refused ended (judged N (sheetOf D speeds T jobs)) bytes at (test-fails _ 3 bytes at (lt-leb (length bytes) at h))
 
 -- 9 and 10 of a sheet by their number
@@ -98,6 +117,7 @@ pub read-judged : (bytes : List ℕ) (at D T : ℕ) (speeds : List Speed) (jobs 
     readCounted N bytes 0 ≡ atEnd D speeds T jobs bytes at → length bytes ≤ at →
     number ≡ limitsRefusal (N (sheetOf D speeds T jobs)) (sheetOf D speeds T jobs) →
     memory ≡ inMemory (sheetOf D speeds T jobs) → sheet ≡ sheetGiven number memory → IsRead bytes number sheet
+unfolding atEnd
 read-judged bytes at D T speeds jobs {number = number} e h n m g =
     let s = sheetOf D speeds T jobs in
     let ending = after-value ended (judged N s) bytes at (test-passes _ 3 bytes at (le-leb (length bytes) at h)) in
@@ -108,11 +128,11 @@ read-judged bytes at D T speeds jobs {number = number} e h n m g =
 refused-same : {A : Type 0} {m n : ℕ} → _≡_ {A = Answer A} (refused m) (refused n) → m ≡ n
 refused-same e = ap (λ a. numberOf a) e
 
-pub table-refused : {A : Type 0} (places : List A → ℕ × List A) (answer : Answer (List A)) (number count next : ℕ) (l : List A) →
+pub table-told : {A : Type 0} (places : List A → ℕ × List A) (answer : Answer (List A)) (number count next : ℕ) (l : List A) →
     tableAnswer number count l next ≡ inMemoryAs places answer → (number ≡ 0 → ⊥) → answer ≡ refused number
-table-refused places answer zero count next l e some = absurd (some refl)
-table-refused places (value l′ next′) (suc number) count next l e some = absurd (refused-no-value e)
-table-refused places (refused k) (suc number) count next l e some = ap (λ (n : ℕ). refused n) (refused-same (sym e))
+table-told places answer zero count next l e some = absurd (some refl)
+table-told places (value l′ next′) (suc number) count next l e some = absurd (refused-no-value e)
+table-told places (refused k) (suc number) count next l e some = ap (λ (n : ℕ). refused n) (refused-same (sym e))
 
 -- the table that was read, of which the places in memory are these
 abbrev pub Given : {A : Type 0} → (List A → ℕ × List A) → Answer (List A) → ℕ → List A → ℕ → Type 0

@@ -1,20 +1,21 @@
 -- `read` meets its contract, stage by stage: after each field and each table, what is left to read.
 use Prim.Native.Nat.{ℕ}
-use mathlib.Core.Path.{_≡_, sym, ap, _∙_}
+use mathlib.Core.Path.{_≡_, ap, _∙_}
 use mathlib.Core.Bool.{true}
 use mathlib.Core.List.{List}
 use borrow.Author.Needs.{needs}
 use denote.Ref.{now}
-use Rattle.model.proofs.Readers.{bind-value, bind-refused, fields-read}
+use Rattle.model.proofs.Readers.{fields-read}
 use Rattle.model.specs.Reading.{readSpeedTable, readJobTable, readCounted}
 use Rattle.model.specs.Refusal.{boundRight, horizonRight, fieldsRefusal, limitsRefusal, N}
 use Rattle.model.specs.Counted.{Counted, counted, inMemory}
 use Rattle.model.specs.declared.Speed.{Speed}
-use Rattle.sheets.proofs.Answers.{passed-by, failed-by}
-use Rattle.codec.specs.Answers.{fieldAnswer, numberOf, speedPlaces, jobPlaces}
+use Rattle.sheets.proofs.Answers.{passed-by}
+use Rattle.codec.specs.Answers.{speedPlaces, jobPlaces}
 use Rattle.codec.specs.declared.tables.JobTable.{JobTable}
 use Rattle.codec.specs.declared.tables.SpeedTable.{SpeedTable}
-use Rattle.codec.proofs.Stages.{field-refused, range-fails, range-passes, sheetOf, fromSpeeds, fromHorizon, fromJobs, atEnd, whole-read, table-refused, Given, table-given, bytes-follow, read-refused, memory-is, memory-counts, read-judged}
+use Rattle.codec.proofs.Steps.{field-number, field-refused, field-fails, field-passes}
+use Rattle.codec.proofs.Stages.{sheetOf, fromSpeeds, fromHorizon, fromJobs, atEnd, at-bound, speeds-refused, speeds-come, at-horizon, jobs-refused, jobs-come, bytes-follow, read-refused, read-judged, table-told, Given, table-given, memory-is, memory-counts}
 use Rattle.codec.proofs.reader.read.Statement.{statement}
 use Rattle.codec.proofs.reader.read.Tie as tie
 use Rattle.codec.proofs.reader.read.Reads as reads
@@ -70,10 +71,8 @@ bound-right c = passed-by (c .before .bound-right .ensures) (c .if1 .left)
 
 bound-read : (c : BoundRead) → readCounted N (bytes c) 0 ≡ fromSpeeds (bound c) (bytes c) (after-bound c)
 bound-read c =
-    whole-read (bytes c) 0 ∙
-    range-passes boundRight 4 fromSpeeds (bytes c) 0
-    (sym (c .before .before .before .before .before .field-at .ensures) ∙ ap fieldAnswer (c .before .before .before .f .given .1))
-    (bound-right c)
+    field-passes at-bound (c .before .before .before .before .before .field-at .ensures) (c .before .before .before .f .given .1)
+    (c .before .bound-right .ensures) (c .if1 .left)
 
 -- where the table of speeds was read
 
@@ -99,7 +98,7 @@ speeds-read : (c : SpeedsRead) →
     readCounted N (bytes s) 0 ≡ fromHorizon (bound s) (speeds-given c .0) (bytes s) (speed-table c .next)
 speeds-read c =
     let s = with-bound c in
-    bound-read s ∙ bind-value readSpeedTable (fromHorizon (bound s)) (bytes s) (after-bound s) (speeds-given c .1)
+    bound-read s ∙ speeds-come (bound s) (bytes s) (after-bound s) (speeds-given c .1)
 
 -- where the horizon was read and is in range
 
@@ -124,9 +123,8 @@ horizon-read : (c : HorizonRead) →
 horizon-read c =
     let s = with-bound (with-speeds c) in
     speeds-read (with-speeds c) ∙
-    range-passes horizonRight 7 (fromJobs (bound s) (speeds-given (with-speeds c) .0)) (bytes s) (speed-table (with-speeds c) .next)
-    (sym (c .before .before .before .before .before .field-at2 .ensures) ∙ ap fieldAnswer (c .before .before .before .f2 .given .1))
-    (horizon-right c)
+    field-passes (at-horizon (bound s) (speeds-given (with-speeds c) .0)) (c .before .before .before .before .before .field-at2 .ensures)
+    (c .before .before .before .f2 .given .1) (c .before .horizon-right .ensures) (c .if3 .left)
 
 -- where the table of jobs was read
 
@@ -157,9 +155,7 @@ jobs-read : (c : JobsRead) →
 jobs-read c =
     let s = start c in
     let h = with-horizon c in
-    horizon-read h ∙
-    bind-value (readJobTable (bound s)) (atEnd (bound s) (speeds-given (with-speeds h) .0) (horizon h)) (bytes s) (after-horizon h)
-    (jobs-given c .1)
+    horizon-read h ∙ jobs-come (bound s) (speeds-given (with-speeds h) .0) (horizon h) (bytes s) (after-horizon h) (jobs-given c .1)
 
 -- the sheet put together of them, and the places of it that count
 
@@ -212,11 +208,9 @@ refused-requires c κs = search needs
 
 returns : tie.Need-returns
 returns c =
-    let told = ap fieldAnswer (c .before .before .enum-told .given .1) in
-    let whole = now (c .before .before .before .before .before .before .args .bytes) in
-    read-refused whole
-    (whole-read whole 0 ∙ field-refused boundRight 4 fromSpeeds whole 0 (sym (c .before .before .before .before .field-at .ensures) ∙ told))
-    (c .refused .ensures .0 ∙ c .before .number-of .ensures ∙ ap numberOf told) (c .refused .ensures .1)
+    read-refused (now (c .before .before .before .before .before .before .args .bytes))
+    (field-refused at-bound (field-number (c .before .before .before .before .field-at .ensures) (c .before .before .enum-told .given .1) (c .before .number-of .ensures)))
+    (c .refused .ensures .0) (c .refused .ensures .1)
 
 bound-right-requires : tie.Need-bound-right-requires
 bound-right-requires c κs = search needs
@@ -226,11 +220,8 @@ refused-requires-2 c κs = search needs
 
 returns-2 : tie.Need-returns-2
 returns-2 c =
-    let whole = now (c .before .before .before .before .before .before .before .before .args .bytes) in
-    read-refused whole
-    (whole-read whole 0 ∙
-    range-fails boundRight 4 fromSpeeds whole 0 (sym (c .before .before .before .before .before .before .field-at .ensures) ∙ ap fieldAnswer (c .before .before .before .before .f .given .1))
-    (failed-by (c .before .before .bound-right .ensures) (c .before .if1 .taken)))
+    read-refused (now (c .before .before .before .before .before .before .before .before .args .bytes))
+    (field-fails at-bound (c .before .before .before .before .before .before .field-at .ensures) (c .before .before .before .before .f .given .1) (c .before .before .bound-right .ensures) (c .before .if1 .taken))
     (c .refused2 .ensures .0) (c .refused2 .ensures .1)
 
 speed-table-at-requires : tie.Need-speed-table-at-requires
@@ -245,8 +236,8 @@ returns-3 c =
     let t = c .before .before .before .speed-table-at .result in
     read-refused (bytes s)
     (bound-read s ∙
-    bind-refused readSpeedTable (fromHorizon (bound s)) (bytes s) (after-bound s)
-    (table-refused speedPlaces (readSpeedTable (bytes s) (after-bound s)) (t .number) (t .count) (t .next) (t .speeds)
+    speeds-refused (bound s) (bytes s) (after-bound s)
+    (table-told speedPlaces (readSpeedTable (bytes s) (after-bound s)) (t .number) (t .count) (t .next) (t .speeds)
     (c .before .before .before .speed-table-at .ensures) (c .before .if2 .taken)))
     (c .refused3 .ensures .0) (c .refused3 .ensures .1)
 
@@ -268,12 +259,11 @@ refused-requires-4 c κs = search needs
 returns-4 : tie.Need-returns-4
 returns-4 c =
     let s = c .before .before .before .before .before in
-    let told = ap fieldAnswer (c .before .before .enum-told2 .given .1) in
     read-refused (bytes (with-bound s))
     (speeds-read s ∙
-    field-refused horizonRight 7 (fromJobs (bound (with-bound s)) (speeds-given s .0)) (bytes (with-bound s)) (speed-table s .next)
-    (sym (c .before .before .before .before .field-at2 .ensures) ∙ told))
-    (c .refused4 .ensures .0 ∙ c .before .number-of2 .ensures ∙ ap numberOf told) (c .refused4 .ensures .1)
+    field-refused (at-horizon (bound (with-bound s)) (speeds-given s .0))
+    (field-number (c .before .before .before .before .field-at2 .ensures) (c .before .before .enum-told2 .given .1) (c .before .number-of2 .ensures)))
+    (c .refused4 .ensures .0) (c .refused4 .ensures .1)
 
 horizon-right-requires : tie.Need-horizon-right-requires
 horizon-right-requires c κs = search needs
@@ -286,9 +276,8 @@ returns-5 c =
     let s = c .before .before .before .before .before .before .before in
     read-refused (bytes (with-bound s))
     (speeds-read s ∙
-    range-fails horizonRight 7 (fromJobs (bound (with-bound s)) (speeds-given s .0)) (bytes (with-bound s)) (speed-table s .next)
-    (sym (c .before .before .before .before .before .before .field-at2 .ensures) ∙ ap fieldAnswer (c .before .before .before .before .f2 .given .1))
-    (failed-by (c .before .before .horizon-right .ensures) (c .before .if3 .taken)))
+    field-fails (at-horizon (bound (with-bound s)) (speeds-given s .0)) (c .before .before .before .before .before .before .field-at2 .ensures) (c .before .before .before .before .f2 .given .1)
+    (c .before .before .horizon-right .ensures) (c .before .if3 .taken))
     (c .refused5 .ensures .0) (c .refused5 .ensures .1)
 
 job-table-at-requires : tie.Need-job-table-at-requires
@@ -304,8 +293,8 @@ returns-6 c =
     let t = c .before .before .before .job-table-at .result in
     read-refused (bytes s)
     (horizon-read h ∙
-    bind-refused (readJobTable (bound s)) (atEnd (bound s) (speeds-given (with-speeds h) .0) (horizon h)) (bytes s) (after-horizon h)
-    (table-refused jobPlaces (readJobTable (bound s) (bytes s) (after-horizon h)) (t .number) (t .count) (t .next) (t .jobs)
+    jobs-refused (bound s) (speeds-given (with-speeds h) .0) (horizon h) (bytes s) (after-horizon h)
+    (table-told jobPlaces (readJobTable (bound s) (bytes s) (after-horizon h)) (t .number) (t .count) (t .next) (t .jobs)
     (c .before .before .before .job-table-at .ensures) (c .before .if4 .taken)))
     (c .refused6 .ensures .0) (c .refused6 .ensures .1)
 
