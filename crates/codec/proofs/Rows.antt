@@ -7,7 +7,7 @@ use native.Mathlib.Nat.{le-refl, not-suc-le-zero, le-of-suc-le-suc, sub-zero, su
 use native.Mathlib.Numerals.{add-one}
 use native.Mathlib.Omega.{arith}
 use lib.ListN.{length, take, set, replicate, length-append}
-use Rattle.model.proofs.Readers.{bind-value, bind-refused}
+use Rattle.model.proofs.Readers.{headed, bind-value, bind-refused}
 use Rattle.model.specs.Reading.{Answer, value, refused, Reader, onward, _>>=_, done, readSpeed, readSpeeds, readJob, readJobs}
 use Rattle.model.specs.Tests.{padded}
 use Rattle.codec.specs.Answers.{tableAnswer, inMemoryAs}
@@ -42,13 +42,6 @@ in-front-none (refused k) = refl
 in-front-one : {A : Type 0} (l : List A) (one : A) (x : Answer (List A)) → inFront l (inFront (one ∷ []) x) ≡ inFront (l ++ (one ∷ [])) x
 in-front-one l one (value rest next) = ap (λ l. value l next) (sym (append-assoc l (one ∷ []) rest))
 in-front-one l one (refused k) = refl
-
--- one entry and then the others
-abbrev headed : {A : Type 0} → Reader A → (A → Reader (List A)) → Reader (List A)
-headed r more = do
-  one ← r
-  rest ← more one
-  done (one ∷ rest)
 
 -- a reader reads one entry and then the others
 pub record Heads {A : Type 0} (left : Reader (List A)) (r : Reader A) (more : A → Reader (List A)) : Type 0 where

@@ -4,7 +4,7 @@ use Prim.Native.Nat.{ℕ, _<_}
 use mathlib.Core.Path.{_≡_, refl, sym, ap, _∙_}
 use mathlib.Core.Bool.{Bool, true, false, not}
 use mathlib.Core.List.{List}
-use Rattle.model.proofs.Readers.{Positive, bind-value, bind-refused, after-value, after-refused, test-passes, test-fails}
+use Rattle.model.proofs.Readers.{Positive, tested, bind-value, bind-refused, after-value, after-refused, test-passes, test-fails}
 use Rattle.model.specs.Reading.{Answer, refused, Reader, _>>=_, _>>_, done, test, field, readSpeed, readSpeeds, readSpeedTable, readJob, readJobs, readJobTable}
 use Rattle.model.specs.Refusal.{speedCountRight, speedRight, energyRight, jobCountRight, weightRight, sizeRight, deadlineRight}
 use Rattle.model.specs.declared.Job.{Job}
@@ -35,13 +35,6 @@ pub refused-positive : {A : Type 0} {x : Answer A} {k : ℕ} → Positive x → 
 refused-positive p e = rw e at p
 
 -- a field and its range
-
--- a field that is tested before the rest is read
-abbrev tested : {B : Type 0} → (ℕ → Bool) → ℕ → (ℕ → Reader B) → Reader B
-tested right number more = do
-  x ← field
-  test (right x) number
-  more x
 
 -- a reader begins with such a field
 pub record Tests {B : Type 0} (whole : Reader B) (right : ℕ → Bool) (number : ℕ) (more : ℕ → Reader B) : Type 0 where

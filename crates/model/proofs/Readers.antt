@@ -9,9 +9,9 @@ use native.Mathlib.Nat.{zero-lt-suc, not-suc-le-zero, le-of-suc-le-suc, suc-ne-z
 use native.Mathlib.Omega.{arith}
 use lib.Dec.{leb, ltb, eqb}
 use lib.ListN.{length, getD}
-use Rattle.model.specs.Counted.{zeroSpeed, zeroJob}
-use Rattle.model.specs.Reading.{Answer, value, refused, Reader, onward, _>>=_, _>>_, done, test, refuse, joined, numberIn, field, readSpeed, readSpeeds, readSpeedTable, readJob, readJobs, readJobTable}
-use Rattle.model.specs.Refusal.{boundRight, speedCountRight, speedRight, energyRight, horizonRight, jobCountRight, weightRight, sizeRight, deadlineRight, refusalOfSpeed, speedsRefusal, refusalOfJob, jobsRefusal, fieldsRefusal}
+use Rattle.model.specs.Counted.{Counted, zeroSpeed, zeroJob}
+use Rattle.model.specs.Reading.{Answer, value, refused, Reader, onward, _>>=_, _>>_, done, test, refuse, joined, numberIn, field, readSpeed, readSpeeds, readSpeedTable, readJob, readJobs, readJobTable, ended, judged, readCounted}
+use Rattle.model.specs.Refusal.{boundRight, speedCountRight, speedRight, energyRight, horizonRight, jobCountRight, weightRight, sizeRight, deadlineRight, refusalOfSpeed, speedsRefusal, refusalOfJob, jobsRefusal, fieldsRefusal, limitsRefusal}
 use Rattle.model.specs.Tests.{check, _then_, inOrder, inTurn}
 use Rattle.model.specs.declared.Job.{Job}
 use Rattle.model.specs.declared.Speed.{Speed}
@@ -123,7 +123,7 @@ bind-positive r more p q bytes at = go (r bytes at) (p bytes at)
     go (refused k) h = h
 
 -- a field that is tested before the rest is read
-abbrev tested : {B : Type 0} → (ℕ → Bool) → ℕ → (ℕ → Reader B) → Reader B
+abbrev pub tested : {B : Type 0} → (ℕ → Bool) → ℕ → (ℕ → Reader B) → Reader B
 tested right number more = do
   x ← field
   test (right x) number
@@ -139,7 +139,7 @@ tested-positive right number more p = bind-positive field _ (number-positive 3) 
     go x bytes at false = zero-lt-suc number
 
 -- one entry and then the others
-abbrev headed : {A : Type 0} → Reader A → (A → Reader (List A)) → Reader (List A)
+abbrev pub headed : {A : Type 0} → Reader A → (A → Reader (List A)) → Reader (List A)
 headed r more = do
   one ← r
   rest ← more one
@@ -187,6 +187,33 @@ read-jobs-positive D (suc left) =
 pub job-table-positive : (D : ℕ) → Numbered (readJobTable D)
 unfolding readJobTable
 job-table-positive D = tested-positive jobCountRight 7 _ (λ n. read-jobs-positive D n)
+
+-- a test with a number that is not 0 never refuses with 0, nor does one by its number
+test-positive : (b : Bool) (number : ℕ) → Numbered (test b (suc number))
+test-positive true number bytes at = tt
+test-positive false number bytes at = zero-lt-suc number
+
+refuse-positive : (number : ℕ) → Numbered (refuse number)
+refuse-positive zero bytes at = tt
+refuse-positive (suc number) bytes at = zero-lt-suc number
+
+-- 9 and 10 never refuse with 0
+judged-positive : (queues : Counted → ℕ) (s : Counted) → Numbered (judged queues s)
+unfolding judged
+judged-positive queues s =
+    let number = limitsRefusal (queues s) s in
+    bind-positive (refuse number) (λ u. done s) (refuse-positive number) (λ u bytes at. tt)
+
+-- reading a sheet never refuses with 0
+pub read-positive : (queues : Counted → ℕ) → Numbered (readCounted queues)
+unfolding readCounted
+read-positive queues =
+    tested-positive boundRight 3 _
+    (λ D. bind-positive readSpeedTable _ speed-table-positive
+    (λ speeds. tested-positive horizonRight 6 _
+    (λ T. bind-positive (readJobTable D) _ (job-table-positive D)
+    (λ jobs. bind-positive ended _ (λ bytes at. test-positive (leb (length bytes) at) 2 bytes at)
+    (λ u. judged-positive queues _)))))
 
 -- what was read, as its fields
 

@@ -1,9 +1,9 @@
 -- Reading undoes writing, and writing undoes reading (specs/Reading.antt, specs/Bytes.antt): an accepted sheet's bytes are read as that
 -- sheet, to their end; and bytes that are read as a sheet are that sheet's bytes, and it is an accepted one. Both go by the sheet's fields.
 use Prim.Native.Nat.{ℕ, zero, suc, _+_, _^_, _≤_, _<_}
-use mathlib.Core.Path.{_≡_, refl, sym, _∙_, subst}
+use mathlib.Core.Path.{_≡_, refl, sym, ap, _∙_, subst}
 use mathlib.Core.List.{List, [], _∷_, _++_, append-assoc, append-nil, flatMap}
-use native.Mathlib.Nat.{le-refl}
+use native.Mathlib.Nat.{le-refl, lt-irrefl}
 use native.Mathlib.Omega.{arith}
 use borrow.Author.Tests.{le-leb, leb-true}
 use lib.Dec.{leb}
@@ -11,12 +11,12 @@ use lib.ListN.{length, take, replicate, length-append}
 use lib.Seq.{take-all, take-take, take-at, length-take-le}
 use Rattle.model.specs.Bytes.{AreBytes, code, speedBytes, jobBytes, sheetBytes}
 use Rattle.model.specs.Counted.{Counted, counted, inMemory, zeroSpeed, zeroJob}
-use Rattle.model.specs.Reading.{value, readSpeedTable, readJobTable, judged, readCounted}
+use Rattle.model.specs.Reading.{Answer, value, refused, readSpeedTable, readJobTable, judged, readCounted, readAnswer, read}
 use Rattle.model.specs.Refusal.{boundRight, speedCountRight, horizonRight, jobCountRight, speedsRefusal, jobsRefusal, fieldsRefusal, limitsRefusal, refusalGiven, sheetRefusal, N}
 use Rattle.model.specs.Tests.{inTurn, padded}
 use Rattle.model.specs.declared.Sheet.{Sheet}
 use Rattle.model.proofs.Codes.{field-code, field-bytes}
-use Rattle.model.proofs.Readers.{value-same, onward-gave, test-gave, refuse-gave, holds-then, tested-gave, Stand, stand-join, stand-split, tableFields, speedFields, jobFields, speed-entries, job-entries, table-gave, table-value, fields-read}
+use Rattle.model.proofs.Readers.{Positive, read-positive, value-same, onward-gave, test-gave, refuse-gave, holds-then, tested-gave, Stand, stand-join, stand-split, tableFields, speedFields, jobFields, speed-entries, job-entries, table-gave, table-value, fields-read}
 use Rattle.model.proofs.Refusal.{Ranged, ranged}
 use Rattle.model.proofs.Tests.{then-both, then-left, then-right}
 
@@ -25,8 +25,8 @@ pub record WellCounted (s : Counted) : Type 0 where
   pub speeds-counted : length (s .speeds) ≡ s .speedCount
   pub jobs-counted : length (s .jobs) ≡ s .jobCount
 
--- the bytes are the sheet's bytes, and it is an accepted one with as many places as its counts say
-pub record IsWritten (bytes : List ℕ) (s : Counted) : Type 0 where
+-- the bytes are the sheet's, and it is an accepted one with as many places as its counts say
+pub record BytesOf (bytes : List ℕ) (s : Counted) : Type 0 where
   pub bytes-are : bytes ≡ sheetBytes s
   pub is-accepted : sheetRefusal s ≡ 0
   pub well-counted : WellCounted s
@@ -168,7 +168,7 @@ stand-written bytes are s next h stands =
 
 -- bytes that are read as a sheet are that sheet's bytes, and it is an accepted one
 pub written-read : (bytes : List ℕ) (are : AreBytes bytes) (s : Counted) (next : ℕ) → readCounted N bytes 0 ≡ value s next →
-    IsWritten bytes s
+    BytesOf bytes s
 unfolding sheetRefusal refusalGiven readCounted readSpeedTable readJobTable judged sheetFields
 written-read bytes are s next e =
     let (D, a, f, t, e1) = tested-gave boundRight 4 bytes 0 _ e in
@@ -184,8 +184,31 @@ written-read bytes are s next e =
     let rest =
     stand-join bytes (tableFields zeroSpeed speedFields (length speeds) speeds) (T ∷ tableFields zeroJob jobFields (length jobs) jobs)
     a b d speedsStand (c, g, jobsStand) in
-    subst (IsWritten bytes) (value-same {m = d} e6 .0) (record {
+    subst (BytesOf bytes) (value-same {m = d} e6 .0) (record {
       bytes-are = stand-written bytes are made d (leb-true (length bytes) d end) (a, f, rest);
       is-accepted = then-both (fieldsRefusal made) (limitsRefusal (N made) made) (fields-read bytes D T speeds jobs a b c d t m u n) k;
       well-counted = record { speeds-counted = refl; jobs-counted = refl };
     })
+
+-- the calls of document 01
+
+-- a read with number 0 gave a sheet
+gave-sheet : (x : Answer Counted) → Positive x → readAnswer x .number ≡ 0 → (s : Counted) × (next : ℕ) × (x ≡ value s next)
+gave-sheet (value s next) p e = (s, next, refl)
+gave-sheet (refused k) p e = absurd (lt-irrefl 0 (rw e at p))
+
+-- an accepted read gives the sheet whose bytes were read, the places past its counts zero
+pub accepted-read : (bytes : List ℕ) → AreBytes bytes → read bytes .number ≡ 0 →
+    (s : Counted) × BytesOf bytes s × (read bytes .sheet ≡ inMemory s)
+unfolding read
+accepted-read bytes are e =
+    let (s, next, d) = gave-sheet (readCounted N bytes 0) (read-positive N bytes 0) e in
+    (s, written-read bytes are s next d, ap (λ (x : Answer Counted). readAnswer x .sheet) d)
+
+-- the bytes of an accepted sheet are accepted, and read as that sheet, the places past its counts zero
+pub written-accepted : (s : Counted) → sheetRefusal s ≡ 0 → WellCounted s →
+    (read (sheetBytes s) .number ≡ 0) × (read (sheetBytes s) .sheet ≡ inMemory s)
+unfolding read
+written-accepted s e w =
+    let d = read-written s e w in
+    (ap (λ (x : Answer Counted). readAnswer x .number) d, ap (λ (x : Answer Counted). readAnswer x .sheet) d)
