@@ -133,7 +133,7 @@ fn print_jobs(sheet: Sheet) {
     }
 }
 
-// What stands in all the places past the counts, added up.
+// What stands in the last places of both tables.
 fn print_past(sheet: Sheet) {
     let speed = sheet.speeds[8];
     let job = sheet.jobs[31];
@@ -194,6 +194,7 @@ fn write_case(name: &[u8], sheet: Sheet, room: usize)
     io::write_all(1, b"\n");
 }
 
+// The cases of document 01 that touch bytes and are not marked P.
 fn read_cases() {
     read_case(
         b"sheet A",
@@ -209,16 +210,108 @@ fn read_cases() {
     );
 }
 
+// 1 to 3: the bytes themselves.
+fn read_bytes() {
+    read_case(b"no bytes", b"");
+    read_case(b"the bytes end inside a number", b"\x82");
+    read_case(b"the bytes end before a field", b"\x02\x03\x00\x00");
+    read_case(b"a longer form of 0", b"\x80\x00");
+    read_case(b"a longer form of 2", b"\x82\x00\x03");
+    read_case(b"a third byte with the high bit", b"\xff\xff\xff");
+    read_case(
+        b"a byte follows sheet A",
+        b"\x02\x03\x00\x00\x01\x01\x02\x04\x02\x02\x01\x00\x01\x01\x02\x02\x00",
+    );
+    read_case(
+        b"a byte follows a sheet of number 9",
+        b"\x01\x02\x00\x00\x01\x01\x3a\x01\x02\x00\x01\x80",
+    );
+}
+
+// 4 to 6: the deadline bound and the speeds.
+fn read_speeds() {
+    read_case(b"D 0", b"\x00");
+    read_case(b"D 7, before the next field is read", b"\x07\x80\x00");
+    read_case(b"D 130", b"\x82\x01");
+    read_case(b"one speed", b"\x02\x01");
+    read_case(b"ten speeds", b"\x02\x0a");
+    read_case(b"the first speed 1", b"\x02\x02\x01");
+    read_case(b"a speed twice", b"\x02\x02\x00\x00\x00");
+    read_case(b"a speed of 9", b"\x02\x02\x00\x00\x09");
+    read_case(b"an energy of 65,536", b"\x02\x02\x00\x80\x80\x04");
+    read_case(
+        b"an energy of 70,000 before a wrong speed",
+        b"\x02\x02\x00\xf0\xa2\x04\x00\x00",
+    );
+}
+
+// 7 to 10: the horizon, the jobs, and the sheet as a whole.
+fn read_jobs() {
+    read_case(b"T 0", b"\x01\x02\x00\x00\x01\x01\x00");
+    read_case(b"T 201", b"\x01\x02\x00\x00\x01\x01\xc9\x01");
+    read_case(b"no jobs", b"\x01\x02\x00\x00\x01\x01\x01\x00");
+    read_case(b"33 jobs", b"\x01\x02\x00\x00\x01\x01\x01\x21");
+    read_case(b"a weight of 0", b"\x01\x02\x00\x00\x01\x01\x01\x01\x00");
+    read_case(
+        b"a weight of 256",
+        b"\x01\x02\x00\x00\x01\x01\x01\x01\x80\x02",
+    );
+    read_case(
+        b"a size of 256",
+        b"\x01\x02\x00\x00\x01\x01\x01\x01\x01\x80\x02",
+    );
+    read_case(
+        b"a deadline of 0",
+        b"\x01\x02\x00\x00\x01\x01\x01\x01\x01\x00\x00",
+    );
+    read_case(
+        b"a deadline of 2, D 1",
+        b"\x01\x02\x00\x00\x01\x01\x01\x01\x01\x00\x02",
+    );
+    read_case(
+        b"all energies 0, T 58",
+        b"\x01\x02\x00\x00\x01\x00\x3a\x01\x02\x00\x01",
+    );
+    read_case(b"N 62,832", b"\x05\x02\x00\x00\x05\x01\x01\x01\x01\x00\x01");
+    read_case(
+        b"N 141,778",
+        b"\x05\x02\x00\x00\x06\x01\x01\x01\x01\x00\x01",
+    );
+    read_case(
+        b"N 141,778 and T 63",
+        b"\x05\x02\x00\x00\x06\x01\x3f\x01\x02\x00\x01",
+    );
+}
+
+// A sheet written into a million bytes, and those read: the bytes that follow are refused.
+fn million_bytes() {
+    let mut many = [0u8; 1000000];
+    let w = codec::write(sheet_a(), &mut many);
+    io::write_all(1, b"sheet A into 1,000,000 bytes: written");
+    print_number(w.number);
+    io::write_all(1, b", length ");
+    io::print_decimal(1, w.length as u64);
+    io::write_all(1, b"\n");
+    read_case(b"1,000,000 bytes", &many);
+}
+
+// Sheet A and sheets in memory that are refused, each for another number.
 fn write_cases() {
     write_case(b"sheet A", sheet_a(), 24);
     write_case(b"sheet A into 16 bytes", sheet_a(), 16);
     write_case(b"sheet A into 15 bytes", sheet_a(), 15);
+    write_case(b"sheet A into no bytes", sheet_a(), 0);
     write_case(b"weight 2, energy 1, T 57", one_job(57), 11);
     write_case(b"weight 2, energy 1, T 58", one_job(58), 11);
-    write_case(b"all numbers 4294967295", all_large(), 24);
+    write_case(b"weight 2, energy 1, T 58, no bytes", one_job(58), 0);
+    write_case(b"all numbers 4,294,967,295", all_large(), 24);
 }
 
 fn main() {
     read_cases();
+    read_bytes();
+    read_speeds();
+    read_jobs();
     write_cases();
+    million_bytes();
 }
