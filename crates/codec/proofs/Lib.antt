@@ -2,3 +2,7 @@ pub mod Groups
 pub mod Steps
 pub mod Rows
 pub mod Stages
+pub mod Lengths
+pub mod Buffers
+pub mod Coding
+pub mod Outcomes

@@ -1,0 +1,78 @@
+-- Laws of what is laid over a lent buffer (specs/Laid.antt): nothing, one byte, a list and then another.
+use Prim.Native.Nat.{ℕ, suc, _+_, _≤_, _<_}
+use mathlib.Core.Path.{_≡_, refl, sym, ap, _∙_}
+use mathlib.Core.List.{List, [], _∷_, _++_, append-assoc}
+use native.Mathlib.Nat.{add-zero, add-assoc}
+use native.Mathlib.Numerals.{add-one}
+use native.Mathlib.Omega.{arith}
+use lib.ListN.{length, take, drop, set, length-append, length-drop, take-append-drop}
+use lib.Seq.{length-take-le, set-split, take-append-seam, drop-append-add, drop-drop}
+use Rattle.model.specs.Tests.{inTurn}
+use Rattle.codec.specs.Laid.{laid, Laid}
+use Rattle.codec.proofs.Lengths.{turn-upto}
+
+-- nothing
+pub laid-none : (at : ℕ) (buffer : List ℕ) → Laid at [] buffer buffer at
+laid-none at buffer = record { next-is = omega arith; buffer-is = rw (add-zero, take-append-drop) }
+
+-- one byte, stored
+pub laid-one : (at b : ℕ) (buffer : List ℕ) → at < length buffer → Laid at (b ∷ []) buffer (set buffer at b) (at + 1)
+laid-one at b buffer h = record { next-is = refl; buffer-is = rw add-one (set-split buffer at b h) }
+
+-- the length of the buffer is kept
+pub laid-length : {at next : ℕ} {l before after : List ℕ} → Laid at l before after next → at + length l ≤ length before →
+    length after ≡ length before
+laid-length {at = at} {l = l} {before = before} laid h =
+    ap length (laid .buffer-is) ∙
+    simp (length-append, length-drop, length-take-le at before (omega arith)) (omega arith)
+
+-- a list laid where two lists meet
+laid-seam : (front back m : List ℕ) (at : ℕ) → length front ≡ at → laid at m (front ++ back) ≡ front ++ (m ++ drop (length m) back)
+laid-seam front back m at e = rw (← e, take-append-seam, drop-append-add)
+
+-- a list and then another behind it are the two as one
+laid-more : (at : ℕ) (l m before : List ℕ) → at ≤ length before → laid (at + length l) m (laid at l before) ≡ laid at (l ++ m) before
+laid-more at l m before h =
+    let front = take at before ++ l in
+    let seam : length front ≡ at + length l = simp (length-append, length-take-le at before h) in
+    ap (laid (at + length l) m) (sym (append-assoc (take at before) l (drop (at + length l) before))) ∙
+    laid-seam front (drop (at + length l) before) m (at + length l) seam ∙
+    simp (drop-drop, append-assoc, length-append, add-assoc)
+
+-- the same of two steps
+pub laid-then : {at next last : ℕ} {l m before between after : List ℕ} → Laid at l before between next → Laid next m between after last →
+    at + length (l ++ m) ≤ length before → Laid at (l ++ m) before after last
+laid-then {at = at} {l = l} {m = m} {before = before} first second h =
+    record {
+      next-is = omega (arith, first .next-is, second .next-is, length-append l m);
+      buffer-is = rw (first .next-is, first .buffer-is) at (second .buffer-is) ∙
+          laid-more at l m before (omega arith);
+    }
+
+-- room for two lists is room for the first
+pub room-first : (at room : ℕ) (l m : List ℕ) → at + length (l ++ m) ≤ room → at + length l ≤ room
+room-first at room l m h = omega (arith, length-append l m)
+
+-- and, once that is laid, for the second
+pub room-then : {at next : ℕ} {l before between : List ℕ} (m : List ℕ) → Laid at l before between next →
+    at + length (l ++ m) ≤ length before → next + length m ≤ length between
+room-then {l = l} m first h =
+    omega (arith, length-append l m, first .next-is, laid-length first (omega (arith, length-append l m)))
+
+-- what a loop over lists in turn knows at place j of n, where the list l stands
+
+module _ (f : ℕ → List ℕ) (j n : ℕ) {l : List ℕ} (here : f j ≡ l) (inside : j < n) {at next : ℕ} {before between : List ℕ}
+    (first : Laid at (inTurn f j) before between next) (room : at + length (inTurn f n) ≤ length before) where
+  -- the lists before it and the list itself have room
+  turn-first : at + length (inTurn f j ++ l) ≤ length before
+  unfolding inTurn
+  turn-first = omega (arith, turn-upto f (suc j) n inside, ap (λ m. length (inTurn f j ++ m)) here)
+
+  -- it has room behind the lists before it
+  pub turn-room : next + length l ≤ length between
+  turn-room = room-then l first turn-first
+
+  -- once it is laid, one list more is
+  pub turn-laid : {after : List ℕ} {last : ℕ} → Laid next l between after last → Laid at (inTurn f (j + 1)) before after last
+  unfolding inTurn
+  turn-laid second = rw (add-one, here) (laid-then first second turn-first)

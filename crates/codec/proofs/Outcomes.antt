@@ -1,0 +1,54 @@
+-- What a write answers (`write` of the model, specs/Bytes.antt), in each of the three ways that it can end.
+use Prim.Native.Nat.{ℕ, _≤_, _<_}
+use mathlib.Core.Path.{_≡_, refl, _∙_}
+use mathlib.Core.List.{List}
+use native.Mathlib.Nat.{zero-add}
+use borrow.Author.Tests.{le-leb, lt-leb, ne-eqb, eqb-false}
+use lib.ListN.{length}
+use Rattle.model.proofs.Tests.{then-left, then-on, then-stops, check-true, check-false}
+use Rattle.model.specs.Bytes.{sheetBytes, writeRefusal, write}
+use Rattle.model.specs.Counted.{Counted}
+use Rattle.model.specs.Refusal.{fieldsRefusal, refusalGiven, sheetRefusal}
+use Rattle.codec.specs.Calls.{IsWritten}
+use Rattle.codec.specs.Laid.{Laid}
+
+-- the fields of a sheet that is accepted are in range
+pub fields-right : (s : Counted) → sheetRefusal s ≡ 0 → fieldsRefusal s ≡ 0
+unfolding sheetRefusal refusalGiven
+fields-right s e = then-left (fieldsRefusal s) _ e
+
+-- a refusal touches nothing and has the length 0
+refused-with : (s : Counted) (buffer : List ℕ) (number : ℕ) → writeRefusal s (length buffer) ≡ number → (number ≡ 0 → ⊥) →
+    IsWritten s buffer number 0 buffer
+unfolding write
+refused-with s buffer number e some =
+    let test = ne-eqb number 0 some in
+    record { number-is = rw (e, test); written-is = rw (e, test); buffer-is = rw (e, test) }
+
+-- the sheet is refused
+pub write-refused : (s : Counted) (buffer : List ℕ) {number : ℕ} → number ≡ sheetRefusal s → (number ≡ 0 → ⊥) →
+    IsWritten s buffer number 0 buffer
+unfolding writeRefusal
+write-refused s buffer {number = number} e some = refused-with s buffer number (rw (← e) (then-stops number _ some)) some
+
+-- the buffer is too short
+pub write-short : (s : Counted) (buffer : List ℕ) → sheetRefusal s ≡ 0 → length buffer < length (sheetBytes s) →
+    IsWritten s buffer 11 0 buffer
+unfolding writeRefusal
+write-short s buffer e short =
+    refused-with s buffer 11
+    (then-on (sheetRefusal s) _ e ∙ check-false _ 11 (lt-leb (length (sheetBytes s)) (length buffer) short)) (eqb-false 11 0 refl)
+
+-- nothing is refused: the sheet's bytes, laid from the first place on, are what is written
+done-with : (s : Counted) {before after : List ℕ} {next : ℕ} → writeRefusal s (length before) ≡ 0 →
+    Laid 0 (sheetBytes s) before after next → IsWritten s before 0 next after
+unfolding write
+done-with s e laid =
+    record { number-is = rw e; written-is = rw e (rw zero-add at (laid .next-is)); buffer-is = rw e (rw zero-add at (laid .buffer-is)) }
+
+-- the sheet is written
+pub write-done : (s : Counted) {before after : List ℕ} {next : ℕ} → sheetRefusal s ≡ 0 → length (sheetBytes s) ≤ length before →
+    Laid 0 (sheetBytes s) before after next → IsWritten s before 0 next after
+unfolding writeRefusal
+write-done s {before = before} e room laid =
+    done-with s (then-on (sheetRefusal s) _ e ∙ check-true _ 11 (le-leb (length (sheetBytes s)) (length before) room)) laid
