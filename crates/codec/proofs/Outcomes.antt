@@ -1,11 +1,12 @@
 -- What a write answers (`write` of the model, specs/Bytes.antt), in each of the three ways that it can end.
 use Prim.Native.Nat.{ℕ, _≤_, _<_}
-use mathlib.Core.Path.{_≡_, refl, _∙_}
+use mathlib.Core.Path.{_≡_, refl}
 use mathlib.Core.List.{List}
 use native.Mathlib.Nat.{zero-add}
-use borrow.Author.Tests.{le-leb, lt-leb, ne-eqb, eqb-false}
+use borrow.Author.Tests.{ne-eqb, eqb-false}
 use lib.ListN.{length}
-use Rattle.model.proofs.Tests.{then-left, then-on, then-stops, check-true, check-false}
+use Rattle.model.proofs.RoundTrip.{write-fits, write-short}
+use Rattle.model.proofs.Tests.{then-left, then-stops}
 use Rattle.model.specs.Bytes.{sheetBytes, writeRefusal, write}
 use Rattle.model.specs.Counted.{Counted}
 use Rattle.model.specs.Refusal.{fieldsRefusal, refusalGiven, sheetRefusal}
@@ -32,12 +33,9 @@ unfolding writeRefusal
 write-refused s buffer {number = number} e some = refused-with s buffer number (rw (← e) (then-stops number _ some)) some
 
 -- the buffer is too short
-pub write-short : (s : Counted) (buffer : List ℕ) → sheetRefusal s ≡ 0 → length buffer < length (sheetBytes s) →
+pub refused-short : (s : Counted) (buffer : List ℕ) → sheetRefusal s ≡ 0 → length buffer < length (sheetBytes s) →
     IsWritten s buffer 11 0 buffer
-unfolding writeRefusal
-write-short s buffer e short =
-    refused-with s buffer 11
-    (then-on (sheetRefusal s) _ e ∙ check-false _ 11 (lt-leb (length (sheetBytes s)) (length buffer) short)) (eqb-false 11 0 refl)
+refused-short s buffer e short = refused-with s buffer 11 (write-short s (length buffer) e short) (eqb-false 11 0 refl)
 
 -- nothing is refused: the sheet's bytes, laid from the first place on, are what is written
 done-with : (s : Counted) {before after : List ℕ} {next : ℕ} → writeRefusal s (length before) ≡ 0 →
@@ -49,6 +47,4 @@ done-with s e laid =
 -- the sheet is written
 pub write-done : (s : Counted) {before after : List ℕ} {next : ℕ} → sheetRefusal s ≡ 0 → length (sheetBytes s) ≤ length before →
     Laid 0 (sheetBytes s) before after next → IsWritten s before 0 next after
-unfolding writeRefusal
-write-done s {before = before} e room laid =
-    done-with s (then-on (sheetRefusal s) _ e ∙ check-true _ 11 (le-leb (length (sheetBytes s)) (length before) room)) laid
+write-done s {before = before} e room laid = done-with s (write-fits s (length before) e room) laid

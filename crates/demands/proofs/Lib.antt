@@ -1,2 +1,4 @@
 pub mod Demand3
 pub mod Example
+pub mod Determined
+pub mod RoundTrip

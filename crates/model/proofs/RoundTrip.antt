@@ -3,13 +3,14 @@
 use Prim.Native.Nat.{ℕ, zero, suc, _+_, _^_, _≤_, _<_}
 use mathlib.Core.Path.{_≡_, refl, sym, ap, _∙_, subst}
 use mathlib.Core.List.{List, [], _∷_, _++_, append-assoc, append-nil, flatMap}
-use native.Mathlib.Nat.{le-refl, lt-irrefl}
+use native.Mathlib.Nat.{le-refl, lt-irrefl, suc-ne-zero}
 use native.Mathlib.Omega.{arith}
-use borrow.Author.Tests.{le-leb, leb-true}
-use lib.Dec.{leb}
-use lib.ListN.{length, take, replicate, length-append}
+use borrow.Author.Tests.{le-leb, lt-leb, leb-true, ne-eqb}
+use mathlib.Core.Bool.{cond}
+use lib.Dec.{leb, eqb}
+use lib.ListN.{length, take, drop, replicate, length-append}
 use lib.Seq.{take-all, take-take, take-at, length-take-le}
-use Rattle.model.specs.Bytes.{AreBytes, code, speedBytes, jobBytes, sheetBytes}
+use Rattle.model.specs.Bytes.{AreBytes, code, speedBytes, jobBytes, sheetBytes, writeRefusal, Written, write}
 use Rattle.model.specs.Counted.{Counted, counted, inMemory, zeroSpeed, zeroJob}
 use Rattle.model.specs.Reading.{Answer, value, refused, readSpeedTable, readJobTable, judged, readCounted, readAnswer, read}
 use Rattle.model.specs.Refusal.{boundRight, speedCountRight, horizonRight, jobCountRight, speedsRefusal, jobsRefusal, fieldsRefusal, limitsRefusal, refusalGiven, sheetRefusal, N}
@@ -18,7 +19,7 @@ use Rattle.model.specs.declared.Sheet.{Sheet}
 use Rattle.model.proofs.Codes.{field-code, field-bytes}
 use Rattle.model.proofs.Readers.{Positive, read-positive, value-same, onward-gave, test-gave, refuse-gave, holds-then, tested-gave, Stand, stand-join, stand-split, tableFields, speedFields, jobFields, speed-entries, job-entries, table-gave, table-value, fields-read}
 use Rattle.model.proofs.Refusal.{Ranged, ranged}
-use Rattle.model.proofs.Tests.{then-both, then-left, then-right}
+use Rattle.model.proofs.Tests.{then-both, then-left, then-right, then-on, check-true, check-false}
 
 -- as many places as the counts say
 pub record WellCounted (s : Counted) : Type 0 where
@@ -212,3 +213,41 @@ unfolding read
 written-accepted s e w =
     let d = read-written s e w in
     (ap (λ (x : Answer Counted). readAnswer x .number) d, ap (λ (x : Answer Counted). readAnswer x .sheet) d)
+
+-- the number of a write is that of its tests
+pub write-number : (s : Counted) (buffer : List ℕ) → write s buffer .number ≡ writeRefusal s (length buffer)
+unfolding write
+write-number s buffer = go (writeRefusal s (length buffer))
+  where
+    go : (n : ℕ) →
+        cond {A = Written} (eqb n 0)
+        (record { number = 0; written = length (sheetBytes s); buffer = sheetBytes s ++ drop (length (sheetBytes s)) buffer })
+        (record { number = n; written = 0; buffer = buffer }) .number ≡ n
+    go zero = refl
+    go (suc n) = rw (ne-eqb (suc n) 0 (suc-ne-zero n))
+
+-- the number of an accepted sheet's write, by the room that it has
+
+pub write-fits : (s : Counted) (room : ℕ) → sheetRefusal s ≡ 0 → length (sheetBytes s) ≤ room → writeRefusal s room ≡ 0
+unfolding writeRefusal
+write-fits s room e h = then-on (sheetRefusal s) _ e ∙ check-true _ 11 (le-leb (length (sheetBytes s)) room h)
+
+pub write-short : (s : Counted) (room : ℕ) → sheetRefusal s ≡ 0 → room < length (sheetBytes s) → writeRefusal s room ≡ 11
+unfolding writeRefusal
+write-short s room e h = then-on (sheetRefusal s) _ e ∙ check-false _ 11 (lt-leb (length (sheetBytes s)) room h)
+
+-- a write that was not refused: the sheet is accepted, and its bytes stand first in the buffer
+pub record WrittenOut (s : Counted) (buffer : List ℕ) : Type 0 where
+  pub is-accepted : sheetRefusal s ≡ 0
+  pub length-is : write s buffer .written ≡ length (sheetBytes s)
+  pub bytes-stand : take (length (sheetBytes s)) (write s buffer .buffer) ≡ sheetBytes s
+
+pub written-out : (s : Counted) (buffer : List ℕ) → write s buffer .number ≡ 0 → WrittenOut s buffer
+unfolding write writeRefusal
+written-out s buffer e =
+    let none : writeRefusal s (length buffer) ≡ 0 = sym (write-number s buffer) ∙ e in
+    record {
+      is-accepted = then-left (sheetRefusal s) _ none;
+      length-is = rw none;
+      bytes-stand = rw none (take-at (sheetBytes s) (drop (length (sheetBytes s)) buffer) (length (sheetBytes s)) refl);
+    }

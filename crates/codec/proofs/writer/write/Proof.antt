@@ -3,7 +3,7 @@ use mathlib.Core.Path.{sym, _∙_}
 use native.Mathlib.Omega.{arith}
 use borrow.Author.Needs.{needs}
 use Rattle.model.specs.Counted.{counted}
-use Rattle.codec.proofs.Outcomes.{fields-right, write-refused, write-short, write-done}
+use Rattle.codec.proofs.Outcomes.{fields-right, write-refused, refused-short, write-done}
 use Rattle.codec.proofs.writer.write.Statement.{statement}
 use Rattle.codec.proofs.writer.write.Tie as tie
 
@@ -26,7 +26,7 @@ sheet-length-requires c κs =
 returns-2 : tie.Need-returns-2
 returns-2 c =
     let a = c .before .before .before .before .before .before .before .args in
-    write-short (counted (a .sheet)) (a .buffer .now) (sym (c .before .before .before .sheet-refusal .ensures) ∙ c .before .before .if1 .left)
+    refused-short (counted (a .sheet)) (a .buffer .now) (sym (c .before .before .before .sheet-refusal .ensures) ∙ c .before .before .if1 .left)
     (omega (arith, c .if2 .taken, c .before .sheet-length .ensures))
 
 put-sheet-requires : tie.Need-put-sheet-requires
