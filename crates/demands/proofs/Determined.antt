@@ -53,7 +53,8 @@ pub write-determined : {s t : Sheet} {before after after′ : List ℕ} {a b : W
     Writes s before a after → Writes t before b after′ → (a ≡ b) × (after ≡ after′)
 write-determined {before = before} {a = a} {b = b} view first second =
     let one = write-is first in
-    let two = write-is second in
-    (same-written a b (one .number-is ∙ ap (λ (s : Counted). write s before .number) view ∙ sym (two .number-is))
-    (one .written-is ∙ ap (λ (s : Counted). write s before .written) view ∙ sym (two .written-is)),
-    one .buffer-is ∙ ap (λ (s : Counted). write s before .buffer) view ∙ sym (two .buffer-is))
+    let two = write-is second in (
+      same-written a b (one .number-is ∙ ap (λ (s : Counted). write s before .number) view ∙ sym (two .number-is))
+          (one .written-is ∙ ap (λ (s : Counted). write s before .written) view ∙ sym (two .written-is)),
+      one .buffer-is ∙ ap (λ (s : Counted). write s before .buffer) view ∙ sym (two .buffer-is),
+    )

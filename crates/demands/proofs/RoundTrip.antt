@@ -34,9 +34,10 @@ write-then-read {sheet = sheet} {before = before} {after = after} {w = w} places
     ap (λ (n : ℕ). take n after) (written .written-is ∙ out .length-is) ∙
     ap (λ (l : List ℕ). take (length (sheetBytes s)) l) (written .buffer-is) ∙ out .bytes-stand in
     let given = written-accepted s (out .is-accepted) well in
-    let promised = read-is reading in
-    (promised .number-is ∙ ap (λ (l : List ℕ). read l .number) bytes ∙ given .0,
-    promised .sheet-is ∙ ap (λ (l : List ℕ). read l .sheet) bytes ∙ given .1)
+    let promised = read-is reading in (
+      promised .number-is ∙ ap (λ (l : List ℕ). read l .number) bytes ∙ given .0,
+      promised .sheet-is ∙ ap (λ (l : List ℕ). read l .sheet) bytes ∙ given .1,
+    )
 
 -- of an accepted read: the places of the sheet that count are those of one accepted sheet, whose bytes were read
 from-read : {bytes : List ℕ} {r : ReadSheet} → AreBytes bytes → Reads bytes r → r .number ≡ 0 → BytesOf bytes (counted (r .sheet))
@@ -59,10 +60,12 @@ read-then-write {bytes = bytes} {before = before} {after = after} {r = r} {w = w
     let fits = write-fits s (length before) (right .is-accepted) (subst (λ (l : List ℕ). length l ≤ length before) (right .bytes-are) room) in
     let none = write-number s before ∙ fits in
     let out = written-out s before none in
-    let long : w .length ≡ length (sheetBytes s) = written .written-is ∙ out .length-is in
-    (written .number-is ∙ none, long ∙ ap length (sym (right .bytes-are)),
-    ap (λ (n : ℕ). take n after) long ∙ ap (λ (l : List ℕ). take (length (sheetBytes s)) l) (written .buffer-is) ∙ out .bytes-stand ∙
-    sym (right .bytes-are))
+    let long : w .length ≡ length (sheetBytes s) = written .written-is ∙ out .length-is in (
+      written .number-is ∙ none,
+      long ∙ ap length (sym (right .bytes-are)),
+      ap (λ (n : ℕ). take n after) long ∙ ap (λ (l : List ℕ). take (length (sheetBytes s)) l) (written .buffer-is) ∙ out .bytes-stand ∙
+          sym (right .bytes-are),
+    )
 
 pub read-then-write-short : {bytes before after : List ℕ} {r : ReadSheet} {w : Written} → AreBytes bytes → Reads bytes r → r .number ≡ 0 →
     Writes (r .sheet) before w after → length before < length bytes → w .number ≡ 11
