@@ -5,7 +5,6 @@ use model::Speed;
 use queues::table;
 use sheets::sheet_refusal;
 ghost use mathlib.Core.Path.{_≡_};
-ghost use mathlib.Core.List.{_++_};
 ghost use Prim.Native.Nat.{_+_, _^_, _≤_, _<_};
 ghost use lib.ListN.{length};
 ghost use Rattle.codec.specs.Calls.{IsWritten};

@@ -2,7 +2,7 @@
 use Prim.Native.Nat.{ℕ, _+_, _*_, _/_, _^_, _≤_, _<_}
 use mathlib.Core.Path.{_≡_, sym, ap, _∙_}
 use mathlib.Core.Bool.{true, false}
-use native.Mathlib.Nat.{mul-le-mul, le-refl, le-trans, mul-assoc, mul-one, pow-zero, pow-suc, one-le-pow, pow-le-pow-right, le-div-iff-mul-le, div-lt-iff-lt-mul, lt-of-lt-of-le}
+use native.Mathlib.Nat.{mul-le-mul, le-refl, mul-assoc, mul-one, pow-zero, pow-suc, one-le-pow, pow-le-pow-right, le-div-iff-mul-le, div-lt-iff-lt-mul, lt-of-lt-of-le}
 use native.Mathlib.Numerals.{add-one}
 use native.Mathlib.Omega.{arith}
 use borrow.Author.Tests.{le-leb, lt-leb}

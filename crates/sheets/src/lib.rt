@@ -6,8 +6,8 @@ mod limits;
 mod ranges;
 mod refusal;
 
-pub use limits::greatest_energy;
-pub use limits::largest;
+pub use limits::Greatest;
+pub use limits::greatest_of;
 pub use limits::limits_refusal;
 pub use limits::weights;
 pub use ranges::bound_right;

@@ -22,34 +22,27 @@ fn larger(a: u32, b: u32) -> u32
     a
 }
 
-// The largest speed M.
-pub fn largest(sheet: Sheet) -> u32
-    requires { ⌜ fieldsRefusal (counted sheet) ≡ 0 ⌝ }
-    ensures { λ r. ⌜ r ≡ M (counted sheet) ⌝ }
-{
-    let mut most = 0;
-    let mut place = 0;
-    while place < sheet.speed_count {
-        let one = sheet.speeds[place as usize];
-        most = larger(most, one.speed);
-        place += 1;
-    }
-    most
+// The largest speed M and the greatest energy, which need not belong together.
+pub struct Greatest {
+    pub speed: u32,
+    pub energy: u32,
 }
 
-// The greatest energy; 0 where all are 0.
-pub fn greatest_energy(sheet: Sheet) -> u32
+// Both, over all the speeds; the energy is 0 where all are 0.
+pub fn greatest_of(sheet: Sheet) -> Greatest
     requires { ⌜ fieldsRefusal (counted sheet) ≡ 0 ⌝ }
-    ensures { λ r. ⌜ r ≡ greatestEnergy (counted sheet) ⌝ }
+    ensures { λ r. ⌜ (r .speed ≡ M (counted sheet)) × (r .energy ≡ greatestEnergy (counted sheet)) ⌝ }
 {
-    let mut most = 0;
+    let mut speed = 0;
+    let mut energy = 0;
     let mut place = 0;
     while place < sheet.speed_count {
         let one = sheet.speeds[place as usize];
-        most = larger(most, one.energy);
+        speed = larger(speed, one.speed);
+        energy = larger(energy, one.energy);
         place += 1;
     }
-    most
+    Greatest { speed, energy }
 }
 
 // G, the greatest energy, or 1 if that is 0.
@@ -57,11 +50,12 @@ fn greatest_or_one(sheet: Sheet) -> u32
     requires { ⌜ fieldsRefusal (counted sheet) ≡ 0 ⌝ }
     ensures { λ r. ⌜ r ≡ G (counted sheet) ⌝ }
 {
-    let greatest = greatest_energy(sheet);
-    if greatest == 0 {
+    let greatest = greatest_of(sheet);
+    let energy = greatest.energy;
+    if energy == 0 {
         return 1;
     }
-    greatest
+    energy
 }
 
 // W, the sum of the weights.
@@ -124,8 +118,8 @@ pub fn limits_refusal(counts: &[u32; 2352], sheet: Sheet) -> u32
     if !value_fits(sheet.horizon, VALUE_LIMIT, sheet) {
         return 9;
     }
-    let most = largest(sheet);
-    if 65535 < queue_count(counts, most, sheet.bound as usize) {
+    let greatest = greatest_of(sheet);
+    if 65535 < queue_count(counts, greatest.speed, sheet.bound as usize) {
         return 10;
     }
     0

@@ -1,10 +1,10 @@
 -- `number_in` meets its contract. It calls itself for the rest of the number; the measure is how many bytes are still allowed.
-use Prim.Native.Nat.{ℕ, _-_, _<_}
-use mathlib.Core.Path.{sym, ap, subst, _∙_}
+use Prim.Native.Nat.{ℕ, _+_, _*_, _-_, _^_, _<_}
+use mathlib.Core.Path.{_≡_, sym, ap, subst, _∙_}
 use native.Mathlib.Omega.{arith}
 use borrow.Author.Needs.{needs}
 use denote.Ref.{now}
-use Rattle.model.specs.Reading.{Answer, value, refused}
+use Rattle.model.specs.Reading.{value, joined, numberIn}
 use Rattle.codec.specs.Answers.{fieldAnswer, Below}
 use Rattle.codec.proofs.Groups.{nonzero, no-byte, bytes-end, last-byte, more-bytes, rest-zero, rest-some, one-below, more-below, below-fits}
 use borrow.Fn.Kinds.{In}
@@ -85,44 +85,56 @@ number-in-returns-4 t c =
       subst (Below (a .most)) (sym told) tt,
     )
 
+-- where the rest of the number was read
+
+abbrev RestRead : ℕ → Type 0
+RestRead t = number-in-lts.After-known-told (calls t) (number-in-at t) number-in.Post
+
+abbrev start : (t : ℕ) → RestRead t → number-in-lts.Start (calls t) (number-in-at t) number-in.Post
+start t c = c .before .before .before .before .before .before .before .before .before .before
+
+abbrev low : (t : ℕ) → RestRead t → ℕ
+low t c = c .before .before .before .before .before .wide .result - 128
+
+abbrev high : (t : ℕ) → RestRead t → ℕ
+high t c = c .before .rest .given .0 .0
+
+abbrev next : (t : ℕ) → RestRead t → ℕ
+next t c = c .before .rest .given .0 .1 .0
+
+-- the number is the lowest group joined to it
+joined-is : (t : ℕ) (c : RestRead t) →
+    let a = start t c .args in
+    joined (low t c) (value (high t c) (next t c)) ≡ numberIn (a .most) (now (a .bytes)) (a .at)
+joined-is t c =
+    let a = start t c .args in
+    more-bytes (a .most) (now (a .bytes)) (a .at) (c .before .before .before .before .before .before .before .before .if1 .left) (c .before .before .before .before .before .before .before .if2 .left) (c .before .before .before .before .before .wide .ensures .0) (c .before .before .before .before .if3 .left)
+    (sym (ap fieldAnswer (c .before .rest .given .1)) ∙ c .before .before .before .number-in .ensures .0)
+
+-- and is small
+joined-small : (t : ℕ) (c : RestRead t) → low t c + 128 * high t c < 128 ^ start t c .args .most
+joined-small t c =
+    let rest = subst (Below (start t c .args .most - 1)) (ap fieldAnswer (c .before .rest .given .1)) (c .before .before .before .number-in .ensures .1) in
+    more-below (start t c .args .most) (c .before .before .before .before .before .wide .result) (high t c) (c .before .before .before .before .before .before .before .before .if1 .left) (c .before .before .before .before .before .wide .ensures .1) rest
+
+joined-fits : (t : ℕ) (c : RestRead t) → low t c + 128 * high t c < 268435456
+joined-fits t c = below-fits (start t c .args .most) (low t c + 128 * high t c) (start t c .pre .1) (joined-small t c)
+
 number-in-returns-5 : (t : ℕ) → number-in-lts.Need-returns-5 (calls t) (number-in-at t) number-in.Post
 number-in-returns-5 t c =
-    let a = c .before .before .before .before .before .before .before .before .before .before .before .args in
-    let high = c .before .before .rest .given .0 .0 in
-    let next = c .before .before .rest .given .0 .1 .0 in
-    let told = ap fieldAnswer (c .before .before .rest .given .1) in
-    let some = c .before .before .before .before .before .before .before .before .before .if1 .left in
-    let byte = c .before .before .before .before .before .before .wide in
-    let whole = more-bytes (a .most) (now (a .bytes)) (a .at) some (c .before .before .before .before .before .before .before .before .if2 .left) (byte .ensures .0) (c .before .before .before .before .before .if3 .left) (sym told ∙ c .before .before .before .before .number-in .ensures .0) in
-    (rest-zero (byte .result - 128) high next (c .if4 .taken) ∙ whole, tt)
+    (rest-zero (low t (c .before)) (high t (c .before)) (next t (c .before)) (c .if4 .taken) ∙ joined-is t (c .before), tt)
 
 number-in-mul-t14 : (t : ℕ) → number-in-lts.Need-mul-t14 (calls t) (number-in-at t) number-in.Post
-number-in-mul-t14 t c =
-    let a = c .before .before .before .before .before .before .before .before .before .before .before .args in
-    let high = c .before .before .rest .given .0 .0 in
-    let small = subst (Below (a .most - 1)) (ap fieldAnswer (c .before .before .rest .given .1)) (c .before .before .before .before .number-in .ensures .1) in
-    let sum = more-below (a .most) (c .before .before .before .before .before .before .wide .result) high (c .before .before .before .before .before .before .before .before .before .if1 .left) (c .before .before .before .before .before .before .wide .ensures .1) small in
-    omega (arith, below-fits (a .most) _ (c .before .before .before .before .before .before .before .before .before .before .before .pre .1) sum)
+number-in-mul-t14 t c = omega (arith, joined-fits t (c .before))
 
 number-in-add-t15 : (t : ℕ) → number-in-lts.Need-add-t15 (calls t) (number-in-at t) number-in.Post
-number-in-add-t15 t c =
-    let a = c .before .before .before .before .before .before .before .before .before .before .before .args in
-    let high = c .before .before .rest .given .0 .0 in
-    let small = subst (Below (a .most - 1)) (ap fieldAnswer (c .before .before .rest .given .1)) (c .before .before .before .before .number-in .ensures .1) in
-    let sum = more-below (a .most) (c .before .before .before .before .before .before .wide .result) high (c .before .before .before .before .before .before .before .before .before .if1 .left) (c .before .before .before .before .before .before .wide .ensures .1) small in
-    omega (arith, below-fits (a .most) _ (c .before .before .before .before .before .before .before .before .before .before .before .pre .1) sum)
+number-in-add-t15 t c = omega (arith, joined-fits t (c .before))
 
 number-in-returns-6 : (t : ℕ) → number-in-lts.Need-returns-6 (calls t) (number-in-at t) number-in.Post
-number-in-returns-6 t c =
-    let a = c .before .before .before .before .before .before .before .before .before .before .before .args in
-    let high = c .before .before .rest .given .0 .0 in
-    let next = c .before .before .rest .given .0 .1 .0 in
-    let told = ap fieldAnswer (c .before .before .rest .given .1) in
-    let some = c .before .before .before .before .before .before .before .before .before .if1 .left in
-    let byte = c .before .before .before .before .before .before .wide in
-    let whole = more-bytes (a .most) (now (a .bytes)) (a .at) some (c .before .before .before .before .before .before .before .before .if2 .left) (byte .ensures .0) (c .before .before .before .before .before .if3 .left) (sym told ∙ c .before .before .before .before .number-in .ensures .0) in
-    let small = subst (Below (a .most - 1)) told (c .before .before .before .before .number-in .ensures .1) in
-    (rest-some (byte .result - 128) high next (c .if4 .left) ∙ whole, more-below (a .most) (byte .result) high some (byte .ensures .1) small)
+number-in-returns-6 t c = (
+  rest-some (low t (c .before)) (high t (c .before)) (next t (c .before)) (c .if4 .left) ∙ joined-is t (c .before),
+  joined-small t (c .before),
+)
 
 pub +number-in-spec : {M : Type 1} → statement M
 +number-in-spec = close μ-number-in λ t. number-in-lts.spec (calls t)

@@ -6,17 +6,17 @@ use Rattle.model.specs.Counted.{counted}
 use Rattle.sheets.proofs.limits.greatest_or_one.Statement.{statement}
 use Rattle.sheets.proofs.limits.greatest_or_one.Tie as tie
 
-greatest-energy-requires : tie.Need-greatest-energy-requires
-greatest-energy-requires c κs = search needs
+greatest-of-requires : tie.Need-greatest-of-requires
+greatest-of-requires c κs = search needs
 
 returns : tie.Need-returns
 returns c =
-    sym (G-none (counted (c .before .before .args .sheet)) (sym (c .before .greatest-energy .ensures) ∙ c .if1 .taken))
+    sym (G-none (counted (c .before .before .args .sheet)) (sym (c .before .greatest-of .ensures .1) ∙ c .if1 .taken))
 
 returns-2 : tie.Need-returns-2
 returns-2 c =
-    let asked = c .before .greatest-energy .ensures in
+    let asked = c .before .greatest-of .ensures .1 in
     asked ∙ sym (G-some (counted (c .before .before .args .sheet)) (λ e. c .if1 .left (asked ∙ e)))
 
 pub greatest-or-one-spec : {M : Type 1} → statement M
-greatest-or-one-spec = tie.close (tie.spec greatest-energy-requires returns returns-2)
+greatest-or-one-spec = tie.close (tie.spec greatest-of-requires returns returns-2)

@@ -22,8 +22,8 @@ returns c =
     let f = c .before .value-fits in
     sym (then-fails _ 8 _ (failed-by (f .ensures) (c .if1 .taken)))
 
-largest-requires : tie.Need-largest-requires
-largest-requires c κs = search needs
+greatest-of-requires : tie.Need-greatest-of-requires
+greatest-of-requires c κs = search needs
 
 cast-queue-count : tie.Need-cast-queue-count
 cast-queue-count c = search needs
@@ -32,7 +32,7 @@ queue-count-requires : tie.Need-queue-count-requires
 queue-count-requires c κs =
     let start = c .before .before .before .before in
     let right = ranged (counted (start .args .sheet)) (start .pre .1) in
-    let most = c .before .largest .ensures in (
+    let most = c .before .greatest-of .ensures .0 in (
       start .pre .0,
       record {
         speed-low = rw most (M-low (counted (start .args .sheet)) right);
@@ -46,7 +46,7 @@ unfolding limitsRefusal refusal9 N
 returns-2 c =
     let s = counted (c .before .before .before .before .before .before .args .sheet) in
     let f = c .before .before .before .before .before .value-fits in
-    let queues = c .before .queue-count .ensures ∙ ap (λ (m : ℕ). queueCount m (s .bound)) (c .before .before .before .largest .ensures) in
+    let queues = c .before .queue-count .ensures ∙ ap (λ (m : ℕ). queueCount m (s .bound)) (c .before .before .before .greatest-of .ensures .0) in
     sym
     (then-passes _ 9 _ (passed-by (f .ensures) (c .before .before .before .before .if1 .left)) ∙
     check-false _ 10 (lt-leb (N s) 65535 (rw queues at (c .if2 .taken))))
@@ -56,7 +56,7 @@ unfolding limitsRefusal refusal9 N
 returns-3 c =
     let s = counted (c .before .before .before .before .before .before .args .sheet) in
     let f = c .before .before .before .before .before .value-fits in
-    let queues = c .before .queue-count .ensures ∙ ap (λ (m : ℕ). queueCount m (s .bound)) (c .before .before .before .largest .ensures) in
+    let queues = c .before .queue-count .ensures ∙ ap (λ (m : ℕ). queueCount m (s .bound)) (c .before .before .before .greatest-of .ensures .0) in
     sym
     (then-passes _ 9 _ (passed-by (f .ensures) (c .before .before .before .before .if1 .left)) ∙
     check-true _ 10 (le-leb (N s) 65535 (rw queues at (c .if2 .left))))
@@ -67,7 +67,7 @@ limits-refusal-spec =
     (tie.spec
     value-fits-requires
     returns
-    largest-requires
+    greatest-of-requires
     cast-queue-count
     queue-count-requires
     returns-2

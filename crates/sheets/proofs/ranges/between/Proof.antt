@@ -1,5 +1,4 @@
 -- `between` meets its contract: the first test that fails decides.
-use mathlib.Core.Path.{refl}
 use borrow.Author.Tests.{le-leb, lt-leb}
 use Rattle.sheets.proofs.ranges.between.Statement.{statement}
 use Rattle.sheets.proofs.ranges.between.Tie as tie
