@@ -8,8 +8,8 @@ use native.Mathlib.Omega.{arith}
 use lib.Dec.{T, lit≤}
 use Rattle.process.specs.Sums.{sum}
 use Rattle.process.specs.Pairing.{OneToOne}
-use Rattle.model.specs.Cases.{A, at, job, sheet}
-use Rattle.model.specs.Counted.{Counted, speedAt, weightAt, sizeAt, deadlineAt, onSheet, energyOf, greatestEnergy, G, M, W}
+use Rattle.model.specs.Cases.{A, at, job}
+use Rattle.model.specs.Counted.{Counted, speedAt, weightAt, sizeAt, deadlineAt, onSheet, energyOf, greatestEnergy, G, M, W, sheetOf}
 use Rattle.model.specs.Queue.{bearableQueues, continuations, eachTotal, queueCount}
 use Rattle.model.specs.Refusal.{N, fieldsRefusal, jobsRefusal, limitsRefusal, refusal9, refusalGiven, sheetRefusal, speedsRefusal}
 use Rattle.model.specs.Tests.{inOrder, firstPlace, greatest}
@@ -18,7 +18,7 @@ use Rattle.demands.specs.Paired.{Paired}
 
 -- sheet A with its entries the other way round, the second of them smaller, energies no more, and a speed 3
 abbrev easier : Counted
-easier = sheet 2 (at 0 0 ∷ at 1 1 ∷ at 2 3 ∷ at 3 9 ∷ []) 2 (job 1 1 2 ∷ job 1 0 1 ∷ [])
+easier = sheetOf 2 (at 0 0 ∷ at 1 1 ∷ at 2 3 ∷ at 3 9 ∷ []) 2 (job 1 1 2 ∷ job 1 0 1 ∷ [])
 
 -- an entry's partner is at the other place
 abbrev other : ℕ → ℕ

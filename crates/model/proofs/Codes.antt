@@ -1,4 +1,4 @@
--- One number's code (specs/Bytes.antt) and its reading (specs/Reading.antt) undo each other; the length of the code, and that it is bytes.
+-- One number's code (specs/Bytes.antt) and its reading (specs/Reading.antt) undo each other; and how long the code is.
 use Prim.Native.Nat.{ℕ, zero, suc, _+_, _*_, _-_, _^_, _%_, _/_, _≤_, _<_}
 use mathlib.Core.Path.{_≡_, refl}
 use mathlib.Core.Bool.{Bool, true, false, cond}
@@ -18,13 +18,13 @@ use Rattle.model.proofs.Tests.{same-test}
 -- from a code to its reading
 
 -- a number that n bytes can hold, and of which some byte is left, is read where its code stands
-abbrev Reads : ℕ → List ℕ → List ℕ → ℕ → Type 0
-Reads n before rest x =
+abbrev IsReadBack : ℕ → List ℕ → List ℕ → ℕ → Type 0
+IsReadBack n before rest x =
     x < 128 ^ n → 1 ≤ x + n →
     numberIn n (before ++ (codeIn n x ++ rest)) (length before) ≡ value x (length before + length (codeIn n x))
 
 -- so it is for every n, by the first byte and the number that the others are
-number-code : (n : ℕ) (before rest : List ℕ) (x : ℕ) → Reads n before rest x
+number-code : (n : ℕ) (before rest : List ℕ) (x : ℕ) → IsReadBack n before rest x
 unfolding numberIn codeIn
 number-code zero before rest x h k = absurd (omega (arith, rw pow-zero at h))
 number-code (suc n) before rest x h k = go (number-code n (before ++ ((128 + x % 128) ∷ [])) rest (x / 128)) (ltb x 128) refl
@@ -32,7 +32,7 @@ number-code (suc n) before rest x h k = go (number-code n (before ++ ((128 + x %
     inside : (c : ℕ) (t : List ℕ) → leb (length (before ++ c ∷ t)) (length before) ≡ false
     inside c t = lt-leb (length (before ++ c ∷ t)) (length before) (simp length-append (omega arith))
 
-    go : Reads n (before ++ ((128 + x % 128) ∷ [])) rest (x / 128) → (b : Bool) → ltb x 128 ≡ b →
+    go : IsReadBack n (before ++ ((128 + x % 128) ∷ [])) rest (x / 128) → (b : Bool) → ltb x 128 ≡ b →
         numberIn (suc n) (before ++ (codeIn (suc n) x ++ rest)) (length before) ≡ value x (length before + length (codeIn (suc n) x))
     go ih true small = rw (small, inside x rest, getD-append-seam before x rest 0, small, add-one)
     go ih false large =
@@ -130,19 +130,3 @@ length-code x =
     (λ t. lt→ltb x 16384 (div-lt-iff-lt-mul (zero-lt-suc 127) .0 (ltb→lt (x / 128) 128 t)))
     (λ t. lt→ltb (x / 128) 128 (div-lt-iff-lt-mul (zero-lt-suc 127) .1 (ltb→lt x 16384 t))) in
     rw (← two) (lengths (ltb x 128) (ltb (x / 128) 128) (ltb (x / 128 / 128) 128) _ _ _ _ _ _)
-
--- a code of at most n bytes is bytes
-code-in-bytes : (n x : ℕ) → AreBytes (codeIn n x)
-unfolding codeIn
-code-in-bytes zero x i = omega arith
-code-in-bytes (suc n) x i = go (code-in-bytes n (x / 128)) (ltb x 128) refl i
-  where
-    go : AreBytes (codeIn n (x / 128)) → (b : Bool) → ltb x 128 ≡ b → AreBytes (cond b (x ∷ []) ((128 + x % 128) ∷ codeIn n (x / 128)))
-    go ih true e zero = omega (arith, ltb-true x 128 e)
-    go ih true e (suc i) = omega arith
-    go ih false e zero = omega (arith, mod-lt x (zero-lt-suc 127))
-    go ih false e (suc i) = ih i
-
--- a number's code is bytes
-pub code-bytes : (x : ℕ) → AreBytes (code x)
-code-bytes x = code-in-bytes 3 x

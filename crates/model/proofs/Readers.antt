@@ -1,5 +1,5 @@
 -- Laws of readers (specs/Reading.antt): one read after another, the tests between them, that no refusal's number is 0, and that the entries
--- that are read are those whose fields stand in the bytes and are right. Elsewhere these laws are used, and not the definitions' text.
+-- that are read are those whose fields stand in the bytes and are right.
 use Prim.Native.Nat.{ℕ, zero, suc, pred, _+_, _*_, _-_, _<_, suc-le-suc}
 use mathlib.Core.Path.{_≡_, refl, sym, ap, _∙_, subst₂}
 use mathlib.Core.Bool.{Bool, true, false, cond}
@@ -9,7 +9,7 @@ use native.Mathlib.Nat.{zero-lt-suc, not-suc-le-zero, le-of-suc-le-suc, suc-ne-z
 use native.Mathlib.Omega.{arith}
 use lib.Dec.{leb, ltb, eqb}
 use lib.ListN.{length, getD}
-use Rattle.model.specs.Counted.{Counted, zeroSpeed, zeroJob}
+use Rattle.model.specs.Counted.{Counted, sheetOf, zeroSpeed, zeroJob}
 use Rattle.model.specs.Reading.{Answer, value, refused, Reader, onward, _>>=_, _>>_, done, test, refuse, joined, numberIn, field, readSpeed, readSpeeds, readSpeedTable, readJob, readJobs, readJobTable, ended, judged, readCounted}
 use Rattle.model.specs.Refusal.{boundRight, speedCountRight, speedRight, energyRight, horizonRight, jobCountRight, weightRight, sizeRight, deadlineRight, refusalOfSpeed, speedsRefusal, refusalOfJob, jobsRefusal, fieldsRefusal, limitsRefusal}
 use Rattle.model.specs.Tests.{check, _then_, inOrder, inTurn}
@@ -92,8 +92,8 @@ Positive (value a next) = Unit {0}
 Positive (refused number) = 0 < number
 
 -- a reader has such answers only
-abbrev pub Numbered : {A : Type 0} → Reader A → Type 0
-Numbered r = (bytes : List ℕ) (at : ℕ) → Positive (r bytes at)
+abbrev pub NeverZero : {A : Type 0} → Reader A → Type 0
+NeverZero r = (bytes : List ℕ) (at : ℕ) → Positive (r bytes at)
 
 -- a choice between two such answers is one
 cond-positive : {A : Type 0} (b : Bool) (x y : Answer A) → Positive x → Positive y → Positive (cond b x y)
@@ -106,7 +106,7 @@ joined-positive low (value high next) p = cond-positive (eqb high 0) (refused 2)
 joined-positive low (refused k) p = p
 
 -- reading a number never refuses with 0
-pub number-positive : (n : ℕ) → Numbered (numberIn n)
+pub number-positive : (n : ℕ) → NeverZero (numberIn n)
 unfolding numberIn
 number-positive zero bytes at = zero-lt-suc 1
 number-positive (suc n) bytes at =
@@ -115,7 +115,7 @@ number-positive (suc n) bytes at =
     (joined-positive (getD bytes at 0 - 128) (numberIn n bytes (suc at)) (number-positive n bytes (suc at))))
 
 -- one read and then another, both with such answers only, have such answers only
-bind-positive : {A B : Type 0} (r : Reader A) (more : A → Reader B) → Numbered r → ((a : A) → Numbered (more a)) → Numbered (_>>=_ r more)
+bind-positive : {A B : Type 0} (r : Reader A) (more : A → Reader B) → NeverZero r → ((a : A) → NeverZero (more a)) → NeverZero (_>>=_ r more)
 bind-positive r more p q bytes at = go (r bytes at) (p bytes at)
   where
     go : (x : Answer _) → Positive x → Positive (onward x (λ a next. more a bytes next))
@@ -130,8 +130,8 @@ tested right number more = do
   more x
 
 -- a field that is tested with a number that is not 0 never refuses with 0, before a rest that never does
-tested-positive : {B : Type 0} (right : ℕ → Bool) (number : ℕ) (more : ℕ → Reader B) → ((x : ℕ) → Numbered (more x)) →
-    Numbered (tested right (suc number) more)
+tested-positive : {B : Type 0} (right : ℕ → Bool) (number : ℕ) (more : ℕ → Reader B) → ((x : ℕ) → NeverZero (more x)) →
+    NeverZero (tested right (suc number) more)
 tested-positive right number more p = bind-positive field _ (number-positive 3) (λ x bytes at. go x bytes at (right x))
   where
     go : (x : ℕ) (bytes : List ℕ) (at : ℕ) (b : Bool) → Positive (_>>_ (test b (suc number)) (more x) bytes at)
@@ -146,18 +146,18 @@ headed r more = do
   done (one ∷ rest)
 
 -- an entry and then the others never refuse with 0, where neither does
-headed-positive : {A : Type 0} (r : Reader A) (more : A → Reader (List A)) → Numbered r → ((a : A) → Numbered (more a)) →
-    Numbered (headed r more)
+headed-positive : {A : Type 0} (r : Reader A) (more : A → Reader (List A)) → NeverZero r → ((a : A) → NeverZero (more a)) →
+    NeverZero (headed r more)
 headed-positive r more p q = bind-positive r _ p (λ one. bind-positive (more one) _ (q one) (λ rest bytes at. tt))
 
 -- reading a speed never refuses with 0
-pub read-speed-positive : (j before : ℕ) → Numbered (readSpeed j before)
+pub read-speed-positive : (j before : ℕ) → NeverZero (readSpeed j before)
 unfolding readSpeed
 read-speed-positive j before =
     tested-positive (speedRight j before) 4 _ (λ speed. tested-positive energyRight 5 _ (λ energy bytes at. tt))
 
 -- reading speeds never refuses with 0
-pub read-speeds-positive : (left j before : ℕ) → Numbered (readSpeeds left j before)
+pub read-speeds-positive : (left j before : ℕ) → NeverZero (readSpeeds left j before)
 unfolding readSpeeds
 read-speeds-positive zero j before = λ bytes at. tt
 read-speeds-positive (suc left) j before =
@@ -165,47 +165,47 @@ read-speeds-positive (suc left) j before =
     (λ one. read-speeds-positive left (suc j) (one .speed))
 
 -- reading the speeds with their count never refuses with 0
-pub speed-table-positive : Numbered readSpeedTable
+pub speed-table-positive : NeverZero readSpeedTable
 unfolding readSpeedTable
 speed-table-positive = tested-positive speedCountRight 4 _ (λ n. read-speeds-positive n 0 0)
 
 -- reading a job never refuses with 0
-pub read-job-positive : (D : ℕ) → Numbered (readJob D)
+pub read-job-positive : (D : ℕ) → NeverZero (readJob D)
 unfolding readJob
 read-job-positive D =
     tested-positive weightRight 7 _
     (λ weight. tested-positive sizeRight 7 _ (λ size. tested-positive (deadlineRight D) 7 _ (λ deadline bytes at. tt)))
 
 -- reading jobs never refuses with 0
-pub read-jobs-positive : (D left : ℕ) → Numbered (readJobs D left)
+pub read-jobs-positive : (D left : ℕ) → NeverZero (readJobs D left)
 unfolding readJobs
 read-jobs-positive D zero = λ bytes at. tt
 read-jobs-positive D (suc left) =
     headed-positive (readJob D) (λ one. readJobs D left) (read-job-positive D) (λ one. read-jobs-positive D left)
 
 -- reading the jobs with their count never refuses with 0
-pub job-table-positive : (D : ℕ) → Numbered (readJobTable D)
+pub job-table-positive : (D : ℕ) → NeverZero (readJobTable D)
 unfolding readJobTable
 job-table-positive D = tested-positive jobCountRight 7 _ (λ n. read-jobs-positive D n)
 
 -- a test with a number that is not 0 never refuses with 0, nor does one by its number
-test-positive : (b : Bool) (number : ℕ) → Numbered (test b (suc number))
+test-positive : (b : Bool) (number : ℕ) → NeverZero (test b (suc number))
 test-positive true number bytes at = tt
 test-positive false number bytes at = zero-lt-suc number
 
-refuse-positive : (number : ℕ) → Numbered (refuse number)
+refuse-positive : (number : ℕ) → NeverZero (refuse number)
 refuse-positive zero bytes at = tt
 refuse-positive (suc number) bytes at = zero-lt-suc number
 
 -- 9 and 10 never refuse with 0
-judged-positive : (queues : Counted → ℕ) (s : Counted) → Numbered (judged queues s)
+judged-positive : (queues : Counted → ℕ) (s : Counted) → NeverZero (judged queues s)
 unfolding judged
 judged-positive queues s =
     let number = limitsRefusal (queues s) s in
     bind-positive (refuse number) (λ u. done s) (refuse-positive number) (λ u bytes at. tt)
 
 -- reading a sheet never refuses with 0
-pub read-positive : (queues : Counted → ℕ) → Numbered (readCounted queues)
+pub read-positive : (queues : Counted → ℕ) → NeverZero (readCounted queues)
 unfolding readCounted
 read-positive queues =
     tested-positive boundRight 3 _
@@ -394,23 +394,10 @@ job-entries D = record {
   start = λ u w v. refl;
 }
 
--- as many speeds were read as were asked for
-pub read-speeds-length : (left j before : ℕ) (bytes : List ℕ) (at : ℕ) (l : List Speed) (next : ℕ) →
-    readSpeeds left j before bytes at ≡ value l next → length l ≡ left
-read-speeds-length left j before bytes at l next e =
-    entries-gave speed-entries left j (record { speed = before; energy = 0 }) bytes at l next e .0
-
--- as many jobs were read as were asked for
-pub read-jobs-length : (D left : ℕ) (bytes : List ℕ) (at : ℕ) (l : List Job) (next : ℕ) →
-    readJobs D left bytes at ≡ value l next → length l ≡ left
-read-jobs-length D left bytes at l next e = entries-gave (job-entries D) left 0 zeroJob bytes at l next e .0
-
 -- the sheet that was read keeps every range
 pub fields-read : (bytes : List ℕ) (D horizon : ℕ) (speeds : List Speed) (jobs : List Job) (a b c d : ℕ) →
     boundRight D ≡ true → readSpeedTable bytes a ≡ value speeds b → horizonRight horizon ≡ true → readJobTable D bytes c ≡ value jobs d →
-    fieldsRefusal
-    (record { bound = D; speedCount = length speeds; speeds = speeds; horizon = horizon; jobCount = length jobs; jobs = jobs }) ≡
-    0
+    fieldsRefusal (sheetOf D speeds horizon jobs) ≡ 0
 unfolding fieldsRefusal speedsRefusal jobsRefusal readSpeedTable readJobTable
 fields-read bytes D horizon speeds jobs a b c d e f g h =
     let (s, m, each) = table-gave speed-entries speedCountRight 5 bytes a speeds b f in

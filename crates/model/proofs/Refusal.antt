@@ -1,5 +1,5 @@
--- What an accepted sheet gives (specs/Refusal.antt): the ranges of document 01 as plain facts. The other proofs use these facts, and not
--- the order in which a sheet is tested.
+-- What an accepted sheet gives (specs/Refusal.antt): the ranges of document 01 as plain facts. Proofs that need only the ranges use these
+-- facts, and not the order in which a sheet is tested.
 use Prim.Native.Nat.{ℕ, zero, suc, pred, _*_, _^_, _≤_, _<_}
 use mathlib.Core.Path.{_≡_, ap}
 use mathlib.Core.Bool.{Bool, true, false, cond, _&&_}

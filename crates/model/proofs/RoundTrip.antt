@@ -11,7 +11,7 @@ use lib.Dec.{leb, eqb}
 use lib.ListN.{length, take, drop, replicate, length-append}
 use lib.Seq.{take-all, take-take, take-at, length-take-le}
 use Rattle.model.specs.Bytes.{AreBytes, code, speedBytes, jobBytes, sheetBytes, writeRefusal, Written, write}
-use Rattle.model.specs.Counted.{Counted, counted, inMemory, zeroSpeed, zeroJob}
+use Rattle.model.specs.Counted.{Counted, sheetOf, counted, inMemory, zeroSpeed, zeroJob}
 use Rattle.model.specs.Reading.{Answer, value, refused, readSpeedTable, readJobTable, judged, readCounted, readAnswer, read}
 use Rattle.model.specs.Refusal.{boundRight, speedCountRight, horizonRight, jobCountRight, speedsRefusal, jobsRefusal, fieldsRefusal, limitsRefusal, refusalGiven, sheetRefusal, N}
 use Rattle.model.specs.Tests.{inTurn, padded}
@@ -177,8 +177,7 @@ written-read bytes are s next e =
     let (T, c, g, u, e3) = tested-gave horizonRight 7 bytes b _ e2 in
     let (jobs, d, n, e4) = onward-gave (readJobTable D bytes c) _ e3 in
     let (end, e5) = test-gave (leb (length bytes) d) 3 bytes d _ e4 in
-    let made : Counted =
-    record { bound = D; speedCount = length speeds; speeds = speeds; horizon = T; jobCount = length jobs; jobs = jobs } in
+    let made = sheetOf D speeds T jobs in
     let (k, e6) = refuse-gave (limitsRefusal (N made) made) bytes d _ e5 in
     let (speedsStand, _, _) = table-gave speed-entries speedCountRight 5 bytes a speeds b m in
     let (jobsStand, _, _) = table-gave (job-entries D) jobCountRight 8 bytes c jobs d n in

@@ -1,4 +1,4 @@
--- Laws of the tests and of the small loops over places (specs/Tests.antt). Elsewhere these laws are used, and not the definitions' text.
+-- Laws of the tests and of the small loops over places (specs/Tests.antt).
 use Prim.Native.Nat.{ℕ, zero, suc, max, _+_, _≤_, _<_}
 use mathlib.Core.Path.{_≡_, refl, sym, ap, subst}
 use mathlib.Core.Bool.{Bool, true, false, cond, _&&_, _||_}

@@ -4,11 +4,13 @@ use mathlib.Core.Bool.{cond}
 use mathlib.Core.List.{List, [], _∷_, _++_}
 use lib.Dec.{leb, ltb, eqb}
 use lib.ListN.{length, getD, drop}
-use Rattle.model.specs.Counted.{Counted, speedAt, energyAt, weightAt, sizeAt, deadlineAt}
+use Rattle.model.specs.Counted.{Counted, zeroSpeed, zeroJob}
 use Rattle.model.specs.Refusal.{sheetRefusal}
 use Rattle.model.specs.Tests.{check, _then_, inTurn}
+use Rattle.model.specs.declared.Job.{Job}
+use Rattle.model.specs.declared.Speed.{Speed}
 
--- each of them is a byte
+-- the checker sees a slice of bytes as a list of numbers; that each is below 256 is what the machine gives
 abbrev pub AreBytes : List ℕ → Type 0
 AreBytes l = (i : ℕ) → getD l i 0 < 256
 
@@ -21,13 +23,21 @@ codeIn (suc n) x = cond (ltb x 128) (x ∷ []) ((128 + x % 128) ∷ codeIn n (x 
 abbrev pub code : ℕ → List ℕ
 code x = codeIn 3 x
 
--- "for each, speed then energy": the first n
-unfoldable pub speedBytes : Counted → ℕ → List ℕ
-speedBytes s n = inTurn (λ j. code (speedAt s j) ++ code (energyAt s j)) n
+-- "for each, speed then energy"
+abbrev pub speedCode : Speed → List ℕ
+speedCode one = code (one .speed) ++ code (one .energy)
 
--- "for each, weight, size, deadline": the first n
+-- "for each, weight, size, deadline"
+abbrev pub jobCode : Job → List ℕ
+jobCode one = code (one .weight) ++ (code (one .size) ++ code (one .deadline))
+
+-- the first n of each
+
+unfoldable pub speedBytes : Counted → ℕ → List ℕ
+speedBytes s n = inTurn (λ j. speedCode (getD (s .speeds) j zeroSpeed)) n
+
 unfoldable pub jobBytes : Counted → ℕ → List ℕ
-jobBytes s n = inTurn (λ i. code (weightAt s i) ++ (code (sizeAt s i) ++ code (deadlineAt s i))) n
+jobBytes s n = inTurn (λ i. jobCode (getD (s .jobs) i zeroJob)) n
 
 -- "Field order: D; count of speeds; for each, speed then energy; T; count of jobs; for each, weight, size, deadline. Nothing follows"
 unfoldable pub sheetBytes : Counted → List ℕ

@@ -7,7 +7,7 @@ use mathlib.Core.List.{List, [], _∷_, _++_}
 use mathlib.Core.Option.{Option, none, some}
 use lib.ListN.{length, getD, take, replicate, set}
 use Rattle.model.specs.Bytes.{code, sheetBytes, write}
-use Rattle.model.specs.Counted.{Counted, counted}
+use Rattle.model.specs.Counted.{Counted, counted, sheetOf}
 use Rattle.model.specs.Plan.{IsValueAt, IsCostAt, IsPlanByte, Decided, FromEmpty, valueIn, admissible, planRefusal, row}
 use Rattle.model.specs.Queue.{Queue, emptyQueue, placesOf, run, arrive, queueCount, numberOf, bearable}
 use Rattle.model.specs.Reading.{Answer, value, refused, field, read}
@@ -67,17 +67,13 @@ abbrev pub AllHold : List Case → Type 0
 AllHold [] = Unit {0}
 AllHold (c ∷ rest) = Holds c × AllHold rest
 
--- sheets for the cases: the counts are those of the lists
+-- speeds and jobs for the sheets of the cases
 
 abbrev pub at : ℕ → ℕ → Speed
 at speed energy = record { speed = speed; energy = energy }
 
 abbrev pub job : ℕ → ℕ → ℕ → Job
 job weight size deadline = record { weight = weight; size = size; deadline = deadline }
-
-abbrev pub sheet : ℕ → List Speed → ℕ → List Job → Counted
-sheet D speeds T jobs =
-    record { bound = D; speedCount = length speeds; speeds = speeds; horizon = T; jobCount = length jobs; jobs = jobs }
 
 -- a sheet in memory: nine places for speeds and thirty-two for jobs, those past the lists holding `junk`
 abbrev pub memory : ℕ → Counted → Sheet
@@ -93,7 +89,7 @@ memory junk s =
 
 -- every place zero
 abbrev pub blank : Sheet
-blank = memory 0 (sheet 0 [] 0 [])
+blank = memory 0 (sheetOf 0 [] 0 [])
 
 -- a state; its queue is padded to six places
 abbrev pub state : Queue → ℕ → ℕ → State
@@ -101,7 +97,7 @@ state w slot energy = record { queue = placesOf w; slot = slot; energy = energy 
 
 -- "Sheet A: D 2; speeds 0, 1, 2 with energies 0, 1, 4; T 2; jobs (weight 1, size 0, deadline 1) and (1, 2, 2)"
 abbrev pub A : Counted
-A = sheet 2 (at 0 0 ∷ at 1 1 ∷ at 2 4 ∷ []) 2 (job 1 0 1 ∷ job 1 2 2 ∷ [])
+A = sheetOf 2 (at 0 0 ∷ at 1 1 ∷ at 2 4 ∷ []) 2 (job 1 0 1 ∷ job 1 2 2 ∷ [])
 
 -- sheet A's plan, as 01's listing has it
 
@@ -116,11 +112,11 @@ planA = A0 ++ A1
 
 -- "D 1, speeds 0 and 1 with energies 0 and 1, T 1, one job (1, 2, 1): number 12, plan bytes 255 255"
 abbrev pub hopeless : Counted
-hopeless = sheet 1 (at 0 0 ∷ at 1 1 ∷ []) 1 (job 1 2 1 ∷ [])
+hopeless = sheetOf 1 (at 0 0 ∷ at 1 1 ∷ []) 1 (job 1 2 1 ∷ [])
 
 -- one job, and it is empty
 abbrev pub idle : ℕ → List Speed → ℕ → Counted
-idle D speeds T = sheet D speeds T (job 1 0 1 ∷ [])
+idle D speeds T = sheetOf D speeds T (job 1 0 1 ∷ [])
 
 abbrev pub upto5 : List Speed
 upto5 = at 0 0 ∷ at 1 0 ∷ at 2 0 ∷ at 3 0 ∷ at 4 0 ∷ at 5 0 ∷ []
@@ -181,7 +177,7 @@ casesP =
 -- sheets of the cases that tell apart what is easy to get wrong
 
 abbrev pub ofA : List Job → Counted
-ofA jobs = sheet 2 (at 0 0 ∷ at 1 1 ∷ at 2 4 ∷ []) 2 jobs
+ofA jobs = sheetOf 2 (at 0 0 ∷ at 1 1 ∷ at 2 4 ∷ []) 2 jobs
 
 -- sheet A with an entry that stands there twice
 abbrev pub twice : Counted
@@ -189,23 +185,23 @@ twice = ofA (job 1 0 1 ∷ job 1 2 2 ∷ job 1 2 2 ∷ [])
 
 -- energies that fall while speeds rise
 abbrev pub falling : Counted
-falling = sheet 2 (at 0 5 ∷ at 1 3 ∷ at 2 1 ∷ []) 2 (job 1 0 1 ∷ job 1 2 2 ∷ [])
+falling = sheetOf 2 (at 0 5 ∷ at 1 3 ∷ at 2 1 ∷ []) 2 (job 1 0 1 ∷ job 1 2 2 ∷ [])
 
 -- sheet A with all energies 0
 abbrev pub free : Counted
-free = sheet 2 (at 0 0 ∷ at 1 0 ∷ at 2 0 ∷ []) 2 (job 1 0 1 ∷ job 1 2 2 ∷ [])
+free = sheetOf 2 (at 0 0 ∷ at 1 0 ∷ at 2 0 ∷ []) 2 (job 1 0 1 ∷ job 1 2 2 ∷ [])
 
 -- weights that differ, and queues with no plan among queues that have one
 abbrev pub uneven : Counted
-uneven = sheet 2 (at 0 0 ∷ at 1 2 ∷ at 2 5 ∷ []) 2 (job 3 0 1 ∷ job 2 1 1 ∷ [])
+uneven = sheetOf 2 (at 0 0 ∷ at 1 2 ∷ at 2 5 ∷ []) 2 (job 3 0 1 ∷ job 2 1 1 ∷ [])
 
 -- two speeds, one job larger than a slot
 abbrev pub coarse : Counted
-coarse = sheet 2 (at 0 0 ∷ at 2 4 ∷ []) 2 (job 1 3 2 ∷ [])
+coarse = sheetOf 2 (at 0 0 ∷ at 2 4 ∷ []) 2 (job 1 3 2 ∷ [])
 
 -- one job of weight 2, energies 0 and `energy`
 abbrev pub doubling : ℕ → ℕ → Counted
-doubling energy T = sheet 1 (at 0 0 ∷ at 1 energy ∷ []) T (job 2 0 1 ∷ [])
+doubling energy T = sheetOf 1 (at 0 0 ∷ at 1 energy ∷ []) T (job 2 0 1 ∷ [])
 
 -- a sheet that names 200 speeds where nine have room
 abbrev pub crowded : Counted
@@ -249,7 +245,7 @@ casesOfPlans =
     decides coarse 1 (1 ∷ 4 ∷ []) none 255 ∷
     decides coarse 0 (0 ∷ 1 ∷ []) (some 8) 2 ∷
     -- a tie goes to the slower speed
-    decides (sheet 1 (at 0 7 ∷ at 1 7 ∷ []) 1 (job 1 0 1 ∷ [])) 0 (emptyQueue 1) (some 7) 0 ∷
+    decides (sheetOf 1 (at 0 7 ∷ at 1 7 ∷ []) 1 (job 1 0 1 ∷ [])) 0 (emptyQueue 1) (some 7) 0 ∷
     -- "values, (T+1) times N places ..; and the plan, T times N bytes"
     numbers (planRefusal A 36 24) 0 ∷
     numbers (planRefusal A 35 24) 11 ∷
@@ -306,9 +302,9 @@ casesOfRefusals =
     refuses (idle 2 (at 0 0 ∷ at 1 65536 ∷ []) 1) 6 ∷
     refuses (idle 2 (at 0 0 ∷ at 1 65535 ∷ []) 1) 0 ∷
     refuses (idle 2 (at 0 0 ∷ at 1 65536 ∷ []) 0) 6 ∷
-    refuses (sheet 2 upto5 0 []) 7 ∷
-    refuses (sheet 2 upto5 201 []) 7 ∷
-    refuses (sheet 2 upto5 1 []) 8 ∷
+    refuses (sheetOf 2 upto5 0 []) 7 ∷
+    refuses (sheetOf 2 upto5 201 []) 7 ∷
+    refuses (sheetOf 2 upto5 1 []) 8 ∷
     -- both of two jobs are looked at
     refuses (ofA (job 1 0 1 ∷ job 0 2 2 ∷ [])) 8 ∷
     refuses (ofA (job 256 0 1 ∷ job 1 2 2 ∷ [])) 8 ∷
@@ -321,11 +317,11 @@ casesOfRefusals =
     refuses (doubling 0 57) 0 ∷
     refuses (doubling 0 58) 9 ∷
     -- T 16, W 8: 16 times 2,048 times 8^16 is 2^63, which is one too many
-    refuses (sheet 1 (at 0 0 ∷ at 1 2047 ∷ []) 16 (job 8 0 1 ∷ [])) 0 ∷
-    refuses (sheet 1 (at 0 0 ∷ at 1 2048 ∷ []) 16 (job 8 0 1 ∷ [])) 9 ∷
+    refuses (sheetOf 1 (at 0 0 ∷ at 1 2047 ∷ []) 16 (job 8 0 1 ∷ [])) 0 ∷
+    refuses (sheetOf 1 (at 0 0 ∷ at 1 2048 ∷ []) 16 (job 8 0 1 ∷ [])) 9 ∷
     -- 9 is told before 10, and 8 before 9
-    refuses (sheet 5 upto6 200 (job 255 0 1 ∷ [])) 9 ∷
-    refuses (sheet 5 upto6 200 (job 255 0 6 ∷ [])) 8 ∷
+    refuses (sheetOf 5 upto6 200 (job 255 0 1 ∷ [])) 9 ∷
+    refuses (sheetOf 5 upto6 200 (job 255 0 6 ∷ [])) 8 ∷
     []
 
 -- bytes

@@ -5,7 +5,7 @@ use Prim.Native.Nat.{ℕ}
 use mathlib.Core.Bool.{Bool, cond}
 use mathlib.Core.List.{List}
 use lib.Dec.{eqb}
-use lib.ListN.{take, getD, replicate}
+use lib.ListN.{length, take, getD, replicate}
 use Rattle.process.specs.Sums.{sum}
 use Rattle.model.specs.Tests.{greatest, listed, anywhere, firstPlace, padded}
 use Rattle.model.specs.declared.Job.{Job}
@@ -50,6 +50,11 @@ inMemory s =
       «job_count» = s .jobCount;
       jobs = padded 32 zeroJob (s .jobs);
     }
+
+-- a sheet of these two tables: the counts are their lengths
+abbrev pub sheetOf : ℕ → List Speed → ℕ → List Job → Counted
+sheetOf D speeds T jobs =
+    record { bound = D; speedCount = length speeds; speeds = speeds; horizon = T; jobCount = length jobs; jobs = jobs }
 
 -- "an all-zero sheet"
 abbrev pub zeroSheet : Sheet

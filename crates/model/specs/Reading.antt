@@ -5,7 +5,7 @@ use mathlib.Core.Bool.{Bool, true, false, cond}
 use mathlib.Core.List.{List, [], _∷_}
 use lib.Dec.{leb, ltb, eqb}
 use lib.ListN.{length, getD}
-use Rattle.model.specs.Counted.{Counted, inMemory, zeroSheet}
+use Rattle.model.specs.Counted.{Counted, sheetOf, inMemory, zeroSheet}
 use Rattle.model.specs.Refusal.{boundRight, speedCountRight, speedRight, energyRight, horizonRight, jobCountRight, weightRight, sizeRight, deadlineRight, limitsRefusal, N}
 use Rattle.model.specs.declared.Job.{Job}
 use Rattle.model.specs.declared.Sheet.{Sheet}
@@ -20,6 +20,7 @@ pub data Answer (A : Type 0) : Type 0 where
 abbrev pub Reader : Type 0 → Type 0
 Reader A = List ℕ → ℕ → Answer A
 
+-- a value goes on, a refusal is the answer
 abbrev pub onward : {A B : Type 0} → Answer A → (A → ℕ → Answer B) → Answer B
 onward (value a next) more = more a next
 onward (refused number) more = refused number
@@ -31,6 +32,7 @@ _>>=_ r more bytes at = onward (r bytes at) (λ a next. more a bytes next)
 abbrev pub _>>_ : {A B : Type 0} → Reader A → Reader B → Reader B
 _>>_ r more bytes at = onward (r bytes at) (λ a next. more bytes next)
 
+-- a value, and no byte taken
 abbrev pub done : {A : Type 0} → A → Reader A
 done a bytes at = value a at
 
@@ -44,7 +46,8 @@ abbrev pub refuse : ℕ → Reader (Unit {0})
 refuse zero bytes at = value tt at
 refuse (suc number) bytes at = refused (suc number)
 
--- the lowest group of seven bits and the number that the rest is; "so a last byte of 0 is allowed only when it is the single byte"
+-- the lowest group of seven bits and the number that the rest is; "so a last byte of 0 is allowed only when it is the single byte":
+-- the rest, itself in shortest form, is 0 exactly where its one byte is 0
 abbrev pub joined : ℕ → Answer ℕ → Answer ℕ
 joined low (value high next) = cond (eqb high 0) (refused 2) (value (low + 128 * high) next)
 joined low (refused number) = refused number
@@ -62,7 +65,7 @@ numberIn (suc n) bytes at =
 abbrev pub field : Reader ℕ
 field bytes at = numberIn 3 bytes at
 
--- one speed with its energy, which stands at place j of the sheet, after the speed `before`
+-- "for each, speed then energy": one of them, which stands at place j of the sheet, after the speed `before`
 unfoldable pub readSpeed : ℕ → ℕ → Reader Speed
 readSpeed j before = do
   speed ← field
@@ -86,7 +89,7 @@ readSpeedTable = do
   test (speedCountRight speedCount) 5
   readSpeeds speedCount 0 0
 
--- one job of a sheet with deadline bound D
+-- "for each, weight, size, deadline": one of them, of a sheet with deadline bound D
 unfoldable pub readJob : ℕ → Reader Job
 readJob D = do
   weight ← field
@@ -116,7 +119,7 @@ readJobTable D = do
 abbrev pub ended : Reader (Unit {0})
 ended bytes at = test (leb (length bytes) at) 3 bytes at
 
--- 9 and 10 of what was read; `queues` is N of a sheet
+-- 9 and 10 of what was read; `queues` is N of a sheet, handed in as in `refusalGiven`
 unfoldable pub judged : (Counted → ℕ) → Counted → Reader Counted
 judged queues s = do
   refuse (limitsRefusal (queues s) s)
@@ -132,8 +135,7 @@ readCounted queues = do
   test (horizonRight T) 7
   jobs ← readJobTable D
   ended
-  judged queues
-      (record { bound = D; speedCount = length speeds; speeds = speeds; horizon = T; jobCount = length jobs; jobs = jobs })
+  judged queues (sheetOf D speeds T jobs)
 
 -- what a read answers, by the number and the sheet: "A refused read gives an all-zero sheet"
 

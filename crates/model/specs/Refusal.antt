@@ -48,18 +48,26 @@ deadlineRight D deadline = within 1 D deadline
 abbrev pub refusalOfSpeed : ℕ → ℕ → ℕ → ℕ → ℕ
 refusalOfSpeed j before speed energy = check (speedRight j before speed) 5 then check (energyRight energy) 6
 
+-- of the speed at a place of the sheet
+abbrev pub speedRefusalAt : Counted → ℕ → ℕ
+speedRefusalAt s j = refusalOfSpeed j (speedAt s (pred j)) (speedAt s j) (energyAt s j)
+
 -- over the first n speeds: each speed, its energy, then the next speed
 unfoldable pub speedsRefusal : Counted → ℕ → ℕ
-speedsRefusal s n = inOrder (λ j. refusalOfSpeed j (speedAt s (pred j)) (speedAt s j) (energyAt s j)) n
+speedsRefusal s n = inOrder (speedRefusalAt s) n
 
 -- 8 of one job of a sheet with deadline bound D
 abbrev pub refusalOfJob : ℕ → ℕ → ℕ → ℕ → ℕ
 refusalOfJob D weight size deadline =
     check (weightRight weight) 8 then check (sizeRight size) 8 then check (deadlineRight D deadline) 8
 
+-- of the job at a place of the sheet
+abbrev pub jobRefusalAt : Counted → ℕ → ℕ
+jobRefusalAt s i = refusalOfJob (s .bound) (weightAt s i) (sizeAt s i) (deadlineAt s i)
+
 -- over the first n jobs
 unfoldable pub jobsRefusal : Counted → ℕ → ℕ
-jobsRefusal s n = inOrder (λ i. refusalOfJob (s .bound) (weightAt s i) (sizeAt s i) (deadlineAt s i)) n
+jobsRefusal s n = inOrder (jobRefusalAt s) n
 
 -- 4 to 8: the range of each field, in field order
 unfoldable pub fieldsRefusal : Counted → ℕ
@@ -71,11 +79,11 @@ fieldsRefusal s =
     check (jobCountRight (s .jobCount)) 8 then
     jobsRefusal s (s .jobCount)
 
--- "9: T times G times W to the power T exceeds 2^63-1": the factor (here T) and the limit are given
+-- "9: T times G times W to the power T exceeds 2^63-1". 01's factor is T; it and the limit are parameters, since later requests change them
 unfoldable pub refusal9 : ℕ → ℕ → Counted → ℕ
 refusal9 factor limit s = check (leb (factor * G s * W s ^ s .horizon) limit) 9
 
--- what the planner's largest value may be
+-- "2^63-1", of number 9: no value passes it
 abbrev pub valueLimit : ℕ
 valueLimit = 2 ^ 63 - 1
 
@@ -87,7 +95,8 @@ refusal10 N = check (leb N 65535) 10
 unfoldable pub N : Counted → ℕ
 N s = queueCount (M s) (s .bound)
 
--- 9 and 10, of the sheet as a whole, where its N is `queues`
+-- 9 and 10, of the sheet as a whole. Its N is handed in as `queues`, so that the cases can be computed with 01's recurrence, which is
+-- proved equal; `sheetRefusal` hands in N itself
 unfoldable pub limitsRefusal : ℕ → Counted → ℕ
 limitsRefusal queues s = refusal9 (s .horizon) valueLimit s then refusal10 queues
 

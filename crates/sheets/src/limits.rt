@@ -1,4 +1,4 @@
-// What a whole sheet's numbers come to, and the two limits over them: 9, that the largest value fits, and 10, that the queues are not
+// What a whole sheet's numbers come to, and the two limits over them: 9, that a bound on every value fits, and 10, that the queues are not
 // too many. All of it is of a sheet whose fields are in range (4 to 8).
 use model::Sheet;
 use queues::queue_count;
@@ -9,7 +9,7 @@ ghost use Rattle.model.specs.Counted.{counted, W, M, greatestEnergy, G};
 ghost use Rattle.model.specs.Refusal.{fieldsRefusal, limitsRefusal, N};
 ghost use Rattle.queues.specs.Counts.{HoldsCounts};
 
-// What number 9 holds the largest value to: 2^63 - 1.
+// What number 9 holds T times G times W to the power T to, which no value passes: 2^63 - 1.
 const VALUE_LIMIT: u64 = 9223372036854775807;
 
 // The larger of two numbers.
@@ -97,14 +97,14 @@ fn product_fits(first: u64, by: u64, times: u32, limit: u64) -> bool
 
 // Whether the factor times G times W to the power T stays within the limit, decided exactly.
 fn value_fits(factor: u32, limit: u64, sheet: Sheet) -> bool
-    requires { ⌜ (factor ≤ 65535) × (fieldsRefusal (counted sheet) ≡ 0) ⌝ }
+    requires { ⌜ fieldsRefusal (counted sheet) ≡ 0 ⌝ }
     ensures { λ r. ⌜ r ≡ leb (factor * G (counted sheet) * W (counted sheet) ^ sheet .horizon) limit ⌝ }
 {
     let greatest = greatest_or_one(sheet);
-    let scale = weights(sheet);
+    let weight_sum = weights(sheet);
     product_fits(
         factor as u64 * greatest as u64,
-        scale as u64,
+        weight_sum as u64,
         sheet.horizon,
         limit,
     )

@@ -1,7 +1,6 @@
 // The range of each field of a sheet. The reader tests a field by these as it comes, the tests of a sheet in memory where it stands; and
 // the number of one speed and of one job.
 use model::Job;
-use model::Speed;
 ghost use mathlib.Core.Path.{_≡_};
 ghost use Rattle.model.specs.Tests.{within};
 ghost use Rattle.model.specs.Refusal.{boundRight, speedCountRight, speedRight, energyRight, horizonRight, jobCountRight, weightRight, sizeRight, deadlineRight, refusalOfSpeed, refusalOfJob};
@@ -30,7 +29,8 @@ pub fn speed_count_right(count: u32) -> bool
     between(2, 9, count)
 }
 
-// The speed at a place of the sheet, after the speed before it: the first is 0, each other is faster than the one before.
+// The speed at a place of the sheet, after the speed before it: the first is 0, each other is faster than the one before and at
+// most 8.
 pub fn speed_right(place: u32, before: u32, speed: u32) -> bool
     ensures { λ r. ⌜ r ≡ speedRight place before speed ⌝ }
 {
@@ -85,12 +85,13 @@ pub fn deadline_right(bound: u32, deadline: u32) -> bool
     between(1, bound, deadline)
 }
 
-// The number of one speed with its energy, at a place of the sheet, after the speed before it: 0, 5 or 6.
-pub fn refusal_of_speed(place: u32, before: u32, one: Speed) -> u32
-    ensures { λ r. ⌜ r ≡ refusalOfSpeed place before (one .speed) (one .energy) ⌝ }
+// The number of one speed with its energy, at a place of the sheet, after the speed before it: 0, 5 or 6. Both tests are made before
+// either is told, so that the branches say nothing but their order.
+pub fn refusal_of_speed(place: u32, before: u32, speed: u32, energy: u32) -> u32
+    ensures { λ r. ⌜ r ≡ refusalOfSpeed place before speed energy ⌝ }
 {
-    let speed_fits = speed_right(place, before, one.speed);
-    let energy_fits = energy_right(one.energy);
+    let speed_fits = speed_right(place, before, speed);
+    let energy_fits = energy_right(energy);
     if !speed_fits {
         return 5;
     }

@@ -8,22 +8,22 @@ use crate::ranges::refusal_of_speed;
 use crate::ranges::speed_count_right;
 use model::Sheet;
 ghost use mathlib.Core.Path.{_≡_};
-ghost use Prim.Native.Nat.{pred, _≤_, _<_};
-ghost use Rattle.model.specs.Counted.{counted, speedAt, energyAt, weightAt, sizeAt, deadlineAt};
-ghost use Rattle.model.specs.Refusal.{refusalOfSpeed, refusalOfJob, speedsRefusal, jobsRefusal, fieldsRefusal, sheetRefusal};
+ghost use Prim.Native.Nat.{_≤_, _<_};
+ghost use Rattle.model.specs.Counted.{counted};
+ghost use Rattle.model.specs.Refusal.{speedRefusalAt, jobRefusalAt, speedsRefusal, jobsRefusal, fieldsRefusal, sheetRefusal};
 ghost use Rattle.queues.specs.Counts.{HoldsCounts};
 
 // The number of the speed at a place.
 fn refusal_at_speed(sheet: Sheet, place: u32) -> u32
     requires { ⌜ (place < sheet .«speed_count») × (sheet .«speed_count» ≤ 9) ⌝ }
-    ensures { λ r. ⌜ r ≡ refusalOfSpeed place (speedAt (counted sheet) (pred place)) (speedAt (counted sheet) place) (energyAt (counted sheet) place) ⌝ }
+    ensures { λ r. ⌜ r ≡ speedRefusalAt (counted sheet) place ⌝ }
 {
     let one = sheet.speeds[place as usize];
     if place == 0 {
-        return refusal_of_speed(0, 0, one);
+        return refusal_of_speed(0, 0, one.speed, one.energy);
     }
     let before = sheet.speeds[place as usize - 1];
-    refusal_of_speed(place, before.speed, one)
+    refusal_of_speed(place, before.speed, one.speed, one.energy)
 }
 
 // The number of the speeds: 0, or that of the first that is refused.
@@ -45,7 +45,7 @@ fn speeds_refusal(sheet: Sheet) -> u32
 // The number of the job at a place.
 fn refusal_at_job(sheet: Sheet, place: u32) -> u32
     requires { ⌜ (place < sheet .«job_count») × (sheet .«job_count» ≤ 32) ⌝ }
-    ensures { λ r. ⌜ r ≡ refusalOfJob (sheet .bound) (weightAt (counted sheet) place) (sizeAt (counted sheet) place) (deadlineAt (counted sheet) place) ⌝ }
+    ensures { λ r. ⌜ r ≡ jobRefusalAt (counted sheet) place ⌝ }
 {
     let one = sheet.jobs[place as usize];
     refusal_of_job(sheet.bound, one)

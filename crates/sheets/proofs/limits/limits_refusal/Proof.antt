@@ -1,7 +1,6 @@
 -- `limits_refusal` meets its contract: number 9 first, then number 10.
 use Prim.Native.Nat.{ℕ}
 use mathlib.Core.Path.{sym, ap, _∙_}
-use native.Mathlib.Omega.{arith}
 use borrow.Author.Needs.{needs}
 use borrow.Author.Tests.{le-leb, lt-leb}
 use Rattle.model.proofs.Tests.{then-passes, then-fails, check-true, check-false}
@@ -14,7 +13,7 @@ use Rattle.sheets.proofs.limits.limits_refusal.Statement.{statement}
 use Rattle.sheets.proofs.limits.limits_refusal.Tie as tie
 
 value-fits-requires : tie.Need-value-fits-requires
-value-fits-requires c κs = (omega (arith, ranged (counted (c .args .sheet)) (c .pre .1) .horizon-high), c .pre .1)
+value-fits-requires c κs = c .pre .1
 
 returns : tie.Need-returns
 unfolding limitsRefusal refusal9

@@ -22,8 +22,9 @@ cast-product-fits c = search needs
 mul-product-fits : tie.Need-mul-product-fits
 mul-product-fits c =
     let sheet = counted (c .before .before .args .sheet) in
-    let most : c .before .greatest-or-one .result ≤ 65535 = rw (c .before .greatest-or-one .ensures) (G-high sheet (ranged sheet (c .before .before .pre .1))) in
-    omega (arith, mul-le-mul (c .before .before .pre .0) most)
+    let most : c .before .greatest-or-one .result ≤ 65535 = rw (c .before .greatest-or-one .ensures) (G-high sheet (ranged sheet (c .before .before .pre))) in
+    let small : c .before .before .args .factor ≤ 4294967295 = omega arith in
+    omega (arith, mul-le-mul small most)
 
 cast-product-fits-2 : tie.Need-cast-product-fits-2
 cast-product-fits-2 c = search needs
@@ -31,7 +32,7 @@ cast-product-fits-2 c = search needs
 product-fits-requires : tie.Need-product-fits-requires
 product-fits-requires c κs =
     let sheet = counted (c .before .before .args .sheet) in
-    rw (c .weights .ensures) (W-low sheet (ranged sheet (c .before .before .pre .1)))
+    rw (c .weights .ensures) (W-low sheet (ranged sheet (c .before .before .pre)))
 
 returns : tie.Need-returns
 returns c =
