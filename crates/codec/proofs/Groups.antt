@@ -19,7 +19,7 @@ pub no-byte : (most : ℕ) (bytes : List ℕ) (at : ℕ) → most ≡ 0 → refu
 unfolding numberIn
 no-byte most bytes at e = ap (λ (n : ℕ). numberIn n bytes at) (sym e)
 
--- a number of one byte more than n: what its first byte says, with the rest of the number given
+-- a number that may take a byte: what its first byte, or the want of one, says of it
 
 -- the bytes end
 pub bytes-end : (most : ℕ) (bytes : List ℕ) (at : ℕ) → (most ≡ 0 → ⊥) → length bytes ≤ at → refused 1 ≡ numberIn most bytes at

@@ -12,13 +12,13 @@ use lib.Dec.{ltb}
 use lib.ListN.{length, getD, length-append}
 use Rattle.model.proofs.Codes.{length-code}
 use Rattle.model.proofs.Refusal.{ranged}
-use Rattle.model.specs.Bytes.{code, speedBytes, jobBytes, sheetBytes}
+use Rattle.model.specs.Bytes.{code, speedCode, jobCode, speedBytes, jobBytes, sheetBytes}
 use Rattle.model.specs.Counted.{Counted, zeroSpeed, zeroJob, speedAt, energyAt, weightAt, sizeAt, deadlineAt}
 use Rattle.model.specs.Refusal.{fieldsRefusal}
 use Rattle.model.specs.Tests.{inTurn}
 use Rattle.model.specs.declared.Job.{Job}
 use Rattle.model.specs.declared.Speed.{Speed}
-use Rattle.codec.specs.Laid.{speedCode, jobCode, SpeedShort, JobShort}
+use Rattle.codec.specs.Laid.{SpeedShort, JobShort}
 
 -- one number's code
 

@@ -5,7 +5,7 @@ use mathlib.Core.List.{List}
 use native.Mathlib.Nat.{suc-ne-zero}
 use borrow.Author.Tests.{le-leb, lt-leb}
 use lib.ListN.{length}
-use Rattle.model.specs.Counted.{Counted, counted, inMemory, zeroSheet}
+use Rattle.model.specs.Counted.{Counted, sheetOf, counted, inMemory, zeroSheet}
 use Rattle.model.specs.Reading.{Answer, value, refused, Reader, _>>=_, _>>_, done, test, refuse, field, ended, readSpeedTable, readJobTable, judged, readCounted, readAnswer, read}
 use Rattle.model.specs.Refusal.{boundRight, horizonRight, fieldsRefusal, limitsRefusal, N}
 use Rattle.model.specs.declared.Job.{Job}
@@ -14,16 +14,11 @@ use Rattle.model.specs.declared.Speed.{Speed}
 use Rattle.model.proofs.Readers.{bind-value, bind-refused, after-value, after-refused, test-passes, test-fails, value-same, refused-no-value}
 use Rattle.model.proofs.Refusal.{ranged}
 use Rattle.model.proofs.RoundTrip.{counted-in-memory}
-use Rattle.codec.specs.Answers.{numberOf, tableAnswer, inMemoryAs, speedPlaces, jobPlaces, sheetGiven}
+use Rattle.codec.specs.Answers.{refusalNumber, tableAnswer, inMemoryAs, speedPlaces, jobPlaces, sheetGiven}
 use Rattle.codec.specs.Calls.{IsRead}
 use Rattle.codec.proofs.Steps.{Tests}
 
 -- what is left to read, after each stage
-
--- the sheet of what was read
-abbrev pub sheetOf : ℕ → List Speed → ℕ → List Job → Counted
-sheetOf D speeds T jobs =
-    record { bound = D; speedCount = length speeds; speeds = speeds; horizon = T; jobCount = length jobs; jobs = jobs }
 
 -- after the table of jobs
 unfoldable pub atEnd : ℕ → List Speed → ℕ → List Job → Reader Counted
@@ -125,7 +120,7 @@ read-judged bytes at D T speeds jobs {number = number} e h n m g =
 -- a table's answer, taken apart by its number
 
 refused-same : {A : Type 0} {m n : ℕ} → _≡_ {A = Answer A} (refused m) (refused n) → m ≡ n
-refused-same e = ap (λ a. numberOf a) e
+refused-same e = ap (λ a. refusalNumber a) e
 
 pub table-told : {A : Type 0} (places : List A → ℕ × List A) (answer : Answer (List A)) (number count next : ℕ) (l : List A) →
     tableAnswer number count l next ≡ inMemoryAs places answer → (number ≡ 0 → ⊥) → answer ≡ refused number

@@ -10,7 +10,7 @@ use Rattle.model.specs.Refusal.{speedCountRight, speedRight, energyRight, jobCo
 use Rattle.model.specs.declared.Job.{Job}
 use Rattle.model.specs.declared.Speed.{Speed}
 use Rattle.sheets.proofs.Answers.{passed-by, failed-by}
-use Rattle.codec.specs.Answers.{fieldAnswer, numberOf}
+use Rattle.codec.specs.Answers.{fieldAnswer, refusalNumber}
 use Rattle.codec.specs.declared.field.Field.{Field}
 use Rattle.codec.specs.declared.field.Field.the-variants as field
 
@@ -22,12 +22,12 @@ told answer e d = sym e ∙ ap answer d
 
 -- the refusal that a call answered, by the number that was taken of its result
 pub told-number : {F A : Type 0} (answer : F → Answer A) {f v : F} {x : Answer A} {k n : ℕ} →
-    answer f ≡ x → f ≡ v → answer v ≡ refused k → n ≡ numberOf (answer f) → x ≡ refused n
-told-number answer e d r m = told answer e d ∙ r ∙ ap refused (sym (m ∙ ap numberOf (ap answer d ∙ r)))
+    answer f ≡ x → f ≡ v → answer v ≡ refused k → n ≡ refusalNumber (answer f) → x ≡ refused n
+told-number answer e d r m = told answer e d ∙ r ∙ ap refused (sym (m ∙ ap refusalNumber (ap answer d ∙ r)))
 
 -- the refusal of a field
 pub field-number : {f : Field} {x : Answer ℕ} {k n : ℕ} →
-    fieldAnswer f ≡ x → f ≡ field.Refused k → n ≡ numberOf (fieldAnswer f) → x ≡ refused n
+    fieldAnswer f ≡ x → f ≡ field.Refused k → n ≡ refusalNumber (fieldAnswer f) → x ≡ refused n
 field-number e d m = told-number fieldAnswer e d refl m
 
 -- the number of a refusal is not 0

@@ -31,9 +31,9 @@ jobAnswer (job.Value one next) = value one next
 jobAnswer (job.Refused number) = refused number
 
 -- the number of an answer: 0 of a value
-abbrev pub numberOf : {A : Type 0} → Answer A → ℕ
-numberOf (value a next) = 0
-numberOf (refused number) = number
+abbrev pub refusalNumber : {A : Type 0} → Answer A → ℕ
+refusalNumber (value a next) = 0
+refusalNumber (refused number) = number
 
 -- a number of at most n bytes is below 128^n, so that no sum of groups wraps
 abbrev pub Below : ℕ → Answer ℕ → Type 0

@@ -3,7 +3,6 @@ use Prim.Native.Nat.{ℕ, _+_, _^_, _<_}
 use mathlib.Core.Path.{_≡_}
 use mathlib.Core.List.{List, _++_}
 use lib.ListN.{length, take, drop}
-use Rattle.model.specs.Bytes.{code}
 use Rattle.model.specs.declared.Job.{Job}
 use Rattle.model.specs.declared.Speed.{Speed}
 
@@ -15,15 +14,7 @@ pub record Laid (at : ℕ) (l before after : List ℕ) (next : ℕ) : Type 0 whe
   pub next-is : next ≡ at + length l
   pub buffer-is : after ≡ laid at l before
 
--- the code of a speed with its energy, and of a job
-
-abbrev pub speedCode : Speed → List ℕ
-speedCode one = code (one .speed) ++ code (one .energy)
-
-abbrev pub jobCode : Job → List ℕ
-jobCode one = code (one .weight) ++ (code (one .size) ++ code (one .deadline))
-
--- every number of it has a code of three bytes at most
+-- every number of a speed, or of a job, has a code of three bytes at most
 
 pub record SpeedShort (one : Speed) : Type 0 where
   pub speed-short : one .speed < 128 ^ 3

@@ -2,7 +2,7 @@
 // the shortest form only.
 ghost use mathlib.Core.Path.{_≡_};
 ghost use Prim.Native.Nat.{_≤_, _<_};
-ghost use Rattle.codec.specs.Answers.{fieldAnswer, numberOf, Below};
+ghost use Rattle.codec.specs.Answers.{fieldAnswer, refusalNumber, Below};
 ghost use Rattle.model.specs.Reading.{numberIn, field};
 
 // A value with its next place, or a refusal's number: 1 or 2.
@@ -13,7 +13,7 @@ pub enum Field {
 
 // The number of a refusal; 0 of a value.
 pub fn number_of(answer: Field) -> u32
-    ensures { λ r. ⌜ r ≡ numberOf (fieldAnswer answer) ⌝ }
+    ensures { λ r. ⌜ r ≡ refusalNumber (fieldAnswer answer) ⌝ }
 {
     match answer {
         Field::Value(_, _) => 0,
@@ -28,7 +28,8 @@ fn wide(byte: u8) -> u32
     byte as u32
 }
 
-// A number of at most `most` bytes at a place.
+// A number of at most `most` bytes at a place. Up to four are allowed here, which still fit 32 bits: that a field has three is
+// `field_at`'s to say.
 fn number_in(most: u32, bytes: &[u8], at: usize) -> Field
     requires { ⌜ most ≤ 4 ⌝ }
     ensures { λ r. ⌜ (fieldAnswer r ≡ numberIn most (now (bytes .entry)) at) × Below most (fieldAnswer r) ⌝ }

@@ -82,9 +82,9 @@ fn whole(bound: u32, speed_table: SpeedTable, horizon: u32, job_table: JobTable)
 pub fn read(bytes: &[u8]) -> ReadSheet
     ensures { λ r. ⌜ IsRead (now (bytes .entry)) (r .number) (r .sheet) ⌝ }
 {
-    let f = field_at(bytes, 0);
-    let Field::Value(bound, at) = f else {
-        return refused(number_of(f));
+    let answer = field_at(bytes, 0);
+    let Field::Value(bound, at) = answer else {
+        return refused(number_of(answer));
     };
     if !bound_right(bound) {
         return refused(4);
@@ -93,9 +93,9 @@ pub fn read(bytes: &[u8]) -> ReadSheet
     if speeds.number != 0 {
         return refused(speeds.number);
     }
-    let f = field_at(bytes, speeds.next);
-    let Field::Value(horizon, at) = f else {
-        return refused(number_of(f));
+    let answer = field_at(bytes, speeds.next);
+    let Field::Value(horizon, at) = answer else {
+        return refused(number_of(answer));
     };
     if !horizon_right(horizon) {
         return refused(7);

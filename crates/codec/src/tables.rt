@@ -13,7 +13,7 @@ use sheets::speed_right;
 use sheets::weight_right;
 ghost use mathlib.Core.Path.{_≡_};
 ghost use Prim.Native.Nat.{_≤_};
-ghost use Rattle.codec.specs.Answers.{speedAnswer, jobAnswer, numberOf, tableAnswer, inMemoryAs, speedPlaces, jobPlaces};
+ghost use Rattle.codec.specs.Answers.{speedAnswer, jobAnswer, refusalNumber, tableAnswer, inMemoryAs, speedPlaces, jobPlaces};
 ghost use Rattle.model.specs.Reading.{readSpeed, readSpeeds, readSpeedTable, readJob, readJobs, readJobTable};
 
 // A speed with its energy and the next place, or a refusal's number.
@@ -24,7 +24,7 @@ enum SpeedRead {
 
 // The number of a refusal; 0 of a value.
 fn number_of_speed(answer: SpeedRead) -> u32
-    ensures { λ r. ⌜ r ≡ numberOf (speedAnswer answer) ⌝ }
+    ensures { λ r. ⌜ r ≡ refusalNumber (speedAnswer answer) ⌝ }
 {
     match answer {
         SpeedRead::Value(_, _) => 0,
@@ -36,16 +36,16 @@ fn number_of_speed(answer: SpeedRead) -> u32
 fn speed_at(bytes: &[u8], at: usize, place: u32, before: u32) -> SpeedRead
     ensures { λ r. ⌜ speedAnswer r ≡ readSpeed place before (now (bytes .entry)) at ⌝ }
 {
-    let f = field_at(bytes, at);
-    let Field::Value(speed, at) = f else {
-        return SpeedRead::Refused(number_of(f));
+    let answer = field_at(bytes, at);
+    let Field::Value(speed, at) = answer else {
+        return SpeedRead::Refused(number_of(answer));
     };
     if !speed_right(place, before, speed) {
         return SpeedRead::Refused(5);
     }
-    let f = field_at(bytes, at);
-    let Field::Value(energy, at) = f else {
-        return SpeedRead::Refused(number_of(f));
+    let answer = field_at(bytes, at);
+    let Field::Value(energy, at) = answer else {
+        return SpeedRead::Refused(number_of(answer));
     };
     if !energy_right(energy) {
         return SpeedRead::Refused(6);
@@ -53,7 +53,8 @@ fn speed_at(bytes: &[u8], at: usize, place: u32, before: u32) -> SpeedRead
     SpeedRead::Value(Speed { speed, energy }, at)
 }
 
-// A table of speeds, zero past its count: with the number 0 and the next place, or, refused, with the refusal's number.
+// A table of speeds, zero past its count: with the number 0 and the next place, or, refused, with the refusal's number. A struct,
+// since an enum cannot hold an array.
 pub struct SpeedTable {
     pub number: u32,
     pub next: usize,
@@ -111,9 +112,9 @@ fn speeds_at(bytes: &[u8], at: usize, count: u32) -> SpeedTable
 pub fn speed_table_at(bytes: &[u8], at: usize) -> SpeedTable
     ensures { λ r. ⌜ tableAnswer (r .number) (r .count) (r .speeds) (r .next) ≡ inMemoryAs speedPlaces (readSpeedTable (now (bytes .entry)) at) ⌝ }
 {
-    let f = field_at(bytes, at);
-    let Field::Value(count, at) = f else {
-        return no_speeds(number_of(f));
+    let answer = field_at(bytes, at);
+    let Field::Value(count, at) = answer else {
+        return no_speeds(number_of(answer));
     };
     if !speed_count_right(count) {
         return no_speeds(5);
@@ -129,7 +130,7 @@ enum JobRead {
 
 // The number of a refusal; 0 of a value.
 fn number_of_job(answer: JobRead) -> u32
-    ensures { λ r. ⌜ r ≡ numberOf (jobAnswer answer) ⌝ }
+    ensures { λ r. ⌜ r ≡ refusalNumber (jobAnswer answer) ⌝ }
 {
     match answer {
         JobRead::Value(_, _) => 0,
@@ -141,23 +142,23 @@ fn number_of_job(answer: JobRead) -> u32
 fn job_at(bytes: &[u8], at: usize, bound: u32) -> JobRead
     ensures { λ r. ⌜ jobAnswer r ≡ readJob bound (now (bytes .entry)) at ⌝ }
 {
-    let f = field_at(bytes, at);
-    let Field::Value(weight, at) = f else {
-        return JobRead::Refused(number_of(f));
+    let answer = field_at(bytes, at);
+    let Field::Value(weight, at) = answer else {
+        return JobRead::Refused(number_of(answer));
     };
     if !weight_right(weight) {
         return JobRead::Refused(8);
     }
-    let f = field_at(bytes, at);
-    let Field::Value(size, at) = f else {
-        return JobRead::Refused(number_of(f));
+    let answer = field_at(bytes, at);
+    let Field::Value(size, at) = answer else {
+        return JobRead::Refused(number_of(answer));
     };
     if !size_right(size) {
         return JobRead::Refused(8);
     }
-    let f = field_at(bytes, at);
-    let Field::Value(deadline, at) = f else {
-        return JobRead::Refused(number_of(f));
+    let answer = field_at(bytes, at);
+    let Field::Value(deadline, at) = answer else {
+        return JobRead::Refused(number_of(answer));
     };
     if !deadline_right(bound, deadline) {
         return JobRead::Refused(8);
@@ -172,7 +173,8 @@ fn job_at(bytes: &[u8], at: usize, bound: u32) -> JobRead
     )
 }
 
-// A table of jobs, zero past its count: with the number 0 and the next place, or, refused, with the refusal's number.
+// A table of jobs, zero past its count: with the number 0 and the next place, or, refused, with the refusal's number. A struct,
+// since an enum cannot hold an array.
 pub struct JobTable {
     pub number: u32,
     pub next: usize,
@@ -230,9 +232,9 @@ fn jobs_at(bytes: &[u8], at: usize, bound: u32, count: u32) -> JobTable
 pub fn job_table_at(bytes: &[u8], at: usize, bound: u32) -> JobTable
     ensures { λ r. ⌜ tableAnswer (r .number) (r .count) (r .jobs) (r .next) ≡ inMemoryAs jobPlaces (readJobTable bound (now (bytes .entry)) at) ⌝ }
 {
-    let f = field_at(bytes, at);
-    let Field::Value(count, at) = f else {
-        return no_jobs(number_of(f));
+    let answer = field_at(bytes, at);
+    let Field::Value(count, at) = answer else {
+        return no_jobs(number_of(answer));
     };
     if !job_count_right(count) {
         return no_jobs(8);

@@ -8,8 +8,8 @@ ghost use mathlib.Core.Path.{_≡_};
 ghost use Prim.Native.Nat.{_+_, _^_, _≤_, _<_};
 ghost use lib.ListN.{length};
 ghost use Rattle.codec.specs.Calls.{IsWritten};
-ghost use Rattle.codec.specs.Laid.{Laid, speedCode, jobCode, SpeedShort, JobShort};
-ghost use Rattle.model.specs.Bytes.{codeIn, code, speedBytes, jobBytes, sheetBytes};
+ghost use Rattle.codec.specs.Laid.{Laid, SpeedShort, JobShort};
+ghost use Rattle.model.specs.Bytes.{codeIn, code, speedCode, jobCode, speedBytes, jobBytes, sheetBytes};
 ghost use Rattle.model.specs.Counted.{counted};
 ghost use Rattle.model.specs.Refusal.{fieldsRefusal};
 
@@ -149,12 +149,12 @@ fn put_sheet(buffer: &mut [u8], sheet: Sheet) -> usize
     requires { ⌜ (fieldsRefusal (counted sheet) ≡ 0) × (length (sheetBytes (counted sheet)) ≤ length (now buffer)) ⌝ }
     ensures { λ r. ⌜ Laid 0 (sheetBytes (counted sheet)) (now (buffer .entry)) (now (buffer .exit)) r ⌝ }
 {
-    let counts = put(buffer, 0, sheet.bound);
-    let speeds = put(buffer, counts, sheet.speed_count);
-    let horizon = put_speeds(buffer, speeds, sheet);
-    let job_count = put(buffer, horizon, sheet.horizon);
-    let jobs = put(buffer, job_count, sheet.job_count);
-    put_jobs(buffer, jobs, sheet)
+    let at_speed_count = put(buffer, 0, sheet.bound);
+    let at_speeds = put(buffer, at_speed_count, sheet.speed_count);
+    let at_horizon = put_speeds(buffer, at_speeds, sheet);
+    let at_job_count = put(buffer, at_horizon, sheet.horizon);
+    let at_jobs = put(buffer, at_job_count, sheet.job_count);
+    put_jobs(buffer, at_jobs, sheet)
 }
 
 // Writes a sheet.

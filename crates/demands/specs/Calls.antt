@@ -16,7 +16,7 @@ use Rattle.codec.proofs.read.Reads as read
 use Rattle.codec.proofs.write.Kinds as write-kinds
 use Rattle.codec.proofs.write.Reads as write
 
--- "In memory a sheet has room for all entries": the places of its two tables
+-- "In memory a sheet has room for all entries". The checker sees an array as a list of any length; nine and 32 are what the machine gives
 pub record HasPlaces (sheet : Sheet) : Type 0 where
   pub nine : length (sheet .speeds) ≡ 9
   pub thirty-two : length (sheet .jobs) ≡ 32

@@ -8,14 +8,14 @@ use denote.Ref.{now}
 use Rattle.model.proofs.Readers.{fields-read}
 use Rattle.model.specs.Reading.{readSpeedTable, readJobTable, readCounted}
 use Rattle.model.specs.Refusal.{boundRight, horizonRight, fieldsRefusal, limitsRefusal, N}
-use Rattle.model.specs.Counted.{Counted, counted, inMemory}
+use Rattle.model.specs.Counted.{Counted, sheetOf, counted, inMemory}
 use Rattle.model.specs.declared.Speed.{Speed}
 use Rattle.sheets.proofs.Answers.{passed-by}
 use Rattle.codec.specs.Answers.{speedPlaces, jobPlaces}
 use Rattle.codec.specs.declared.tables.JobTable.{JobTable}
 use Rattle.codec.specs.declared.tables.SpeedTable.{SpeedTable}
 use Rattle.codec.proofs.Steps.{field-number, field-refused, field-fails, field-passes}
-use Rattle.codec.proofs.Stages.{sheetOf, fromSpeeds, fromHorizon, fromJobs, atEnd, at-bound, speeds-refused, speeds-come, at-horizon, jobs-refused, jobs-come, bytes-follow, read-refused, read-judged, table-told, Given, table-given, memory-is, memory-counts}
+use Rattle.codec.proofs.Stages.{fromSpeeds, fromHorizon, fromJobs, atEnd, at-bound, speeds-refused, speeds-come, at-horizon, jobs-refused, jobs-come, bytes-follow, read-refused, read-judged, table-told, Given, table-given, memory-is, memory-counts}
 use Rattle.codec.proofs.reader.read.Statement.{statement}
 use Rattle.codec.proofs.reader.read.Tie as tie
 use Rattle.codec.proofs.reader.read.Reads as reads
@@ -61,17 +61,17 @@ abbrev bytes : BoundRead → List ℕ
 bytes c = now (c .before .before .before .before .before .before .before .args .bytes)
 
 abbrev bound : BoundRead → ℕ
-bound c = c .before .before .before .f .given .0 .0
+bound c = c .before .before .before .answer .given .0 .0
 
 abbrev after-bound : BoundRead → ℕ
-after-bound c = c .before .before .before .f .given .0 .1 .0
+after-bound c = c .before .before .before .answer .given .0 .1 .0
 
 bound-right : (c : BoundRead) → boundRight (bound c) ≡ true
 bound-right c = passed-by (c .before .bound-right .ensures) (c .if1 .left)
 
 bound-read : (c : BoundRead) → readCounted N (bytes c) 0 ≡ fromSpeeds (bound c) (bytes c) (after-bound c)
 bound-read c =
-    field-passes at-bound (c .before .before .before .before .before .field-at .ensures) (c .before .before .before .f .given .1)
+    field-passes at-bound (c .before .before .before .before .before .field-at .ensures) (c .before .before .before .answer .given .1)
     (c .before .bound-right .ensures) (c .if1 .left)
 
 -- where the table of speeds was read
@@ -109,10 +109,10 @@ abbrev with-speeds : HorizonRead → SpeedsRead
 with-speeds c = c .before .before .before .before .before .before
 
 abbrev horizon : HorizonRead → ℕ
-horizon c = c .before .before .before .f2 .given .0 .0
+horizon c = c .before .before .before .answer2 .given .0 .0
 
 abbrev after-horizon : HorizonRead → ℕ
-after-horizon c = c .before .before .before .f2 .given .0 .1 .0
+after-horizon c = c .before .before .before .answer2 .given .0 .1 .0
 
 horizon-right : (c : HorizonRead) → horizonRight (horizon c) ≡ true
 horizon-right c = passed-by (c .before .horizon-right .ensures) (c .if3 .left)
@@ -124,7 +124,7 @@ horizon-read c =
     let s = with-bound (with-speeds c) in
     speeds-read (with-speeds c) ∙
     field-passes (at-horizon (bound s) (speeds-given (with-speeds c) .0)) (c .before .before .before .before .before .field-at2 .ensures)
-    (c .before .before .before .f2 .given .1) (c .before .horizon-right .ensures) (c .if3 .left)
+    (c .before .before .before .answer2 .given .1) (c .before .horizon-right .ensures) (c .if3 .left)
 
 -- where the table of jobs was read
 
@@ -194,8 +194,8 @@ counts-right c =
 field-at-requires : tie.Need-field-at-requires
 field-at-requires c κs = search needs
 
-enum-known-f : tie.Need-enum-known-f
-enum-known-f c = search needs
+enum-known-answer : tie.Need-enum-known-answer
+enum-known-answer c = search needs
 
 enum-told : tie.Need-enum-told
 enum-told c = search needs
@@ -221,7 +221,7 @@ refused-requires-2 c κs = search needs
 returns-2 : tie.Need-returns-2
 returns-2 c =
     read-refused (now (c .before .before .before .before .before .before .before .before .args .bytes))
-    (field-fails at-bound (c .before .before .before .before .before .before .field-at .ensures) (c .before .before .before .before .f .given .1) (c .before .before .bound-right .ensures) (c .before .if1 .taken))
+    (field-fails at-bound (c .before .before .before .before .before .before .field-at .ensures) (c .before .before .before .before .answer .given .1) (c .before .before .bound-right .ensures) (c .before .if1 .taken))
     (c .refused2 .ensures .0) (c .refused2 .ensures .1)
 
 speed-table-at-requires : tie.Need-speed-table-at-requires
@@ -244,8 +244,8 @@ returns-3 c =
 field-at-requires-2 : tie.Need-field-at-requires-2
 field-at-requires-2 c κs = search needs
 
-enum-known-f-2 : tie.Need-enum-known-f-2
-enum-known-f-2 c = search needs
+enum-known-answer-2 : tie.Need-enum-known-answer-2
+enum-known-answer-2 c = search needs
 
 enum-told-2 : tie.Need-enum-told-2
 enum-told-2 c = search needs
@@ -276,7 +276,7 @@ returns-5 c =
     let s = c .before .before .before .before .before .before .before in
     read-refused (bytes (with-bound s))
     (speeds-read s ∙
-    field-fails (at-horizon (bound (with-bound s)) (speeds-given s .0)) (c .before .before .before .before .before .before .field-at2 .ensures) (c .before .before .before .before .f2 .given .1)
+    field-fails (at-horizon (bound (with-bound s)) (speeds-given s .0)) (c .before .before .before .before .before .before .field-at2 .ensures) (c .before .before .before .before .answer2 .given .1)
     (c .before .before .horizon-right .ensures) (c .before .if3 .taken))
     (c .refused5 .ensures .0) (c .refused5 .ensures .1)
 
@@ -329,7 +329,7 @@ read-spec =
     tie.close
     (tie.spec
     field-at-requires
-    enum-known-f
+    enum-known-answer
     enum-told
     number-of-requires
     refused-requires
@@ -341,7 +341,7 @@ read-spec =
     refused-requires-3
     returns-3
     field-at-requires-2
-    enum-known-f-2
+    enum-known-answer-2
     enum-told-2
     number-of-requires-2
     refused-requires-4

@@ -8,8 +8,8 @@ use Rattle.codec.proofs.tables.job_at.Tie as tie
 field-at-requires : tie.Need-field-at-requires
 field-at-requires c κs = search needs
 
-enum-known-f : tie.Need-enum-known-f
-enum-known-f c = search needs
+enum-known-answer : tie.Need-enum-known-answer
+enum-known-answer c = search needs
 
 enum-told : tie.Need-enum-told
 enum-told c = search needs
@@ -30,13 +30,13 @@ returns-2 : tie.Need-returns-2
 returns-2 c =
     sym
     (field-fails (at-weight _) (c .before .before .before .before .before .field-at .ensures)
-    (c .before .before .before .f .given .1) (c .before .weight-right .ensures) (c .if1 .taken))
+    (c .before .before .before .answer .given .1) (c .before .weight-right .ensures) (c .if1 .taken))
 
 field-at-requires-2 : tie.Need-field-at-requires-2
 field-at-requires-2 c κs = search needs
 
-enum-known-f-2 : tie.Need-enum-known-f-2
-enum-known-f-2 c = search needs
+enum-known-answer-2 : tie.Need-enum-known-answer-2
+enum-known-answer-2 c = search needs
 
 enum-told-2 : tie.Need-enum-told-2
 enum-told-2 c = search needs
@@ -49,7 +49,7 @@ returns-3 c =
     let weight = c .before .before .before .before in
     sym
     (field-passes (at-weight _) (weight .before .before .before .before .before .field-at .ensures)
-    (weight .before .before .before .f .given .1) (weight .before .weight-right .ensures) (weight .if1 .left) ∙
+    (weight .before .before .before .answer .given .1) (weight .before .weight-right .ensures) (weight .if1 .left) ∙
     field-refused (at-size _ _)
     (field-number (c .before .before .before .field-at2 .ensures) (c .before .enum-told2 .given .1) (c .number-of2 .ensures)))
 
@@ -61,15 +61,15 @@ returns-4 c =
     let weight = c .before .before .before .before .before .before in
     sym
     (field-passes (at-weight _) (weight .before .before .before .before .before .field-at .ensures)
-    (weight .before .before .before .f .given .1) (weight .before .weight-right .ensures) (weight .if1 .left) ∙
+    (weight .before .before .before .answer .given .1) (weight .before .weight-right .ensures) (weight .if1 .left) ∙
     field-fails (at-size _ _) (c .before .before .before .before .before .field-at2 .ensures)
-    (c .before .before .before .f2 .given .1) (c .before .size-right .ensures) (c .if2 .taken))
+    (c .before .before .before .answer2 .given .1) (c .before .size-right .ensures) (c .if2 .taken))
 
 field-at-requires-3 : tie.Need-field-at-requires-3
 field-at-requires-3 c κs = search needs
 
-enum-known-f-3 : tie.Need-enum-known-f-3
-enum-known-f-3 c = search needs
+enum-known-answer-3 : tie.Need-enum-known-answer-3
+enum-known-answer-3 c = search needs
 
 enum-told-3 : tie.Need-enum-told-3
 enum-told-3 c = search needs
@@ -83,9 +83,9 @@ returns-5 c =
     let weight = size .before .before .before .before .before .before in
     sym
     (field-passes (at-weight _) (weight .before .before .before .before .before .field-at .ensures)
-    (weight .before .before .before .f .given .1) (weight .before .weight-right .ensures) (weight .if1 .left) ∙
+    (weight .before .before .before .answer .given .1) (weight .before .weight-right .ensures) (weight .if1 .left) ∙
     field-passes (at-size _ _) (size .before .before .before .before .before .field-at2 .ensures)
-    (size .before .before .before .f2 .given .1) (size .before .size-right .ensures) (size .if2 .left) ∙
+    (size .before .before .before .answer2 .given .1) (size .before .size-right .ensures) (size .if2 .left) ∙
     field-refused (at-deadline _ _ _)
     (field-number (c .before .before .before .field-at3 .ensures) (c .before .enum-told3 .given .1) (c .number-of3 .ensures)))
 
@@ -98,11 +98,11 @@ returns-6 c =
     let weight = size .before .before .before .before .before .before in
     sym
     (field-passes (at-weight _) (weight .before .before .before .before .before .field-at .ensures)
-    (weight .before .before .before .f .given .1) (weight .before .weight-right .ensures) (weight .if1 .left) ∙
+    (weight .before .before .before .answer .given .1) (weight .before .weight-right .ensures) (weight .if1 .left) ∙
     field-passes (at-size _ _) (size .before .before .before .before .before .field-at2 .ensures)
-    (size .before .before .before .f2 .given .1) (size .before .size-right .ensures) (size .if2 .left) ∙
+    (size .before .before .before .answer2 .given .1) (size .before .size-right .ensures) (size .if2 .left) ∙
     field-fails (at-deadline _ _ _) (c .before .before .before .before .before .field-at3 .ensures)
-    (c .before .before .before .f3 .given .1) (c .before .deadline-right .ensures) (c .if3 .taken))
+    (c .before .before .before .answer3 .given .1) (c .before .deadline-right .ensures) (c .if3 .taken))
 
 returns-7 : tie.Need-returns-7
 returns-7 c =
@@ -110,32 +110,32 @@ returns-7 c =
     let weight = size .before .before .before .before .before .before in
     sym
     (field-passes (at-weight _) (weight .before .before .before .before .before .field-at .ensures)
-    (weight .before .before .before .f .given .1) (weight .before .weight-right .ensures) (weight .if1 .left) ∙
+    (weight .before .before .before .answer .given .1) (weight .before .weight-right .ensures) (weight .if1 .left) ∙
     field-passes (at-size _ _) (size .before .before .before .before .before .field-at2 .ensures)
-    (size .before .before .before .f2 .given .1) (size .before .size-right .ensures) (size .if2 .left) ∙
+    (size .before .before .before .answer2 .given .1) (size .before .size-right .ensures) (size .if2 .left) ∙
     field-passes (at-deadline _ _ _) (c .before .before .before .before .before .field-at3 .ensures)
-    (c .before .before .before .f3 .given .1) (c .before .deadline-right .ensures) (c .if3 .left))
+    (c .before .before .before .answer3 .given .1) (c .before .deadline-right .ensures) (c .if3 .left))
 
 pub job-at-spec : {M : Type 1} → statement M
 job-at-spec =
     tie.close
     (tie.spec
     field-at-requires
-    enum-known-f
+    enum-known-answer
     enum-told
     number-of-requires
     returns
     weight-right-requires
     returns-2
     field-at-requires-2
-    enum-known-f-2
+    enum-known-answer-2
     enum-told-2
     number-of-requires-2
     returns-3
     size-right-requires
     returns-4
     field-at-requires-3
-    enum-known-f-3
+    enum-known-answer-3
     enum-told-3
     number-of-requires-3
     returns-5

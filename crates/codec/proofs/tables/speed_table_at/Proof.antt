@@ -13,8 +13,8 @@ use Rattle.codec.proofs.tables.speed_table_at.Tie as tie
 field-at-requires : tie.Need-field-at-requires
 field-at-requires c κs = search needs
 
-enum-known-f : tie.Need-enum-known-f
-enum-known-f c = search needs
+enum-known-answer : tie.Need-enum-known-answer
+enum-known-answer c = search needs
 
 enum-told : tie.Need-enum-told
 enum-told c = search needs
@@ -42,7 +42,7 @@ returns-2 c =
     let count = c .before in
     table-refused _ _ _ _
     (field-fails at-speed-count (count .before .before .before .before .before .field-at .ensures)
-    (count .before .before .before .f .given .1) (count .before .speed-count-right .ensures) (count .if1 .taken))
+    (count .before .before .before .answer .given .1) (count .before .speed-count-right .ensures) (count .if1 .taken))
     (zero-lt-suc _) (c .no-speeds2 .ensures)
 
 speeds-at-requires : tie.Need-speeds-at-requires
@@ -55,14 +55,14 @@ returns-3 c =
     ap (inMemoryAs speedPlaces)
     (sym
     (field-passes at-speed-count (count .before .before .before .before .before .field-at .ensures)
-    (count .before .before .before .f .given .1) (count .before .speed-count-right .ensures) (count .if1 .left)))
+    (count .before .before .before .answer .given .1) (count .before .speed-count-right .ensures) (count .if1 .left)))
 
 pub speed-table-at-spec : {M : Type 1} → statement M
 speed-table-at-spec =
     tie.close
     (tie.spec
     field-at-requires
-    enum-known-f
+    enum-known-answer
     enum-told
     number-of-requires
     no-speeds-requires

@@ -5,12 +5,11 @@ use mathlib.Core.Path.{_≡_, refl, sym, ap, _∙_}
 use native.Mathlib.Omega.{arith}
 use lib.ListN.{length}
 use Rattle.model.proofs.Refusal.{ranged}
-use Rattle.model.specs.Bytes.{jobBytes}
+use Rattle.model.specs.Bytes.{jobBytes, jobCode}
 use Rattle.model.specs.Counted.{counted}
 use Rattle.model.specs.Tests.{inTurn}
 use Rattle.model.specs.declared.Job.{Job}
 use Rattle.sheets.proofs.Places.{job-counts}
-use Rattle.codec.specs.Laid.{jobCode}
 use Rattle.codec.proofs.Lengths.{code-upto, turn-next, job-length, jobs-upto}
 use Rattle.codec.proofs.writer.jobs_length.Statement.{statement}
 use Rattle.codec.proofs.writer.jobs_length.Tie as tie

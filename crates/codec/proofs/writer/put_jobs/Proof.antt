@@ -3,11 +3,11 @@ use Prim.Native.Nat.{_≤_, _-_}
 use mathlib.Core.Path.{_≡_, ap, subst}
 use native.Mathlib.Omega.{arith}
 use Rattle.model.proofs.Refusal.{ranged}
-use Rattle.model.specs.Bytes.{jobBytes}
+use Rattle.model.specs.Bytes.{jobBytes, jobCode}
 use Rattle.model.specs.Counted.{counted}
 use Rattle.model.specs.Tests.{inTurn}
 use Rattle.sheets.proofs.Places.{job-counts}
-use Rattle.codec.specs.Laid.{Laid, JobShort, jobCode}
+use Rattle.codec.specs.Laid.{Laid, JobShort}
 use Rattle.codec.proofs.Buffers.{laid-none, laid-length, turn-room, turn-laid}
 use Rattle.codec.proofs.Lengths.{job-short}
 use Rattle.codec.proofs.writer.put_jobs.Statement.{statement}

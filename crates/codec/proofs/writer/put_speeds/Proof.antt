@@ -3,11 +3,11 @@ use Prim.Native.Nat.{_≤_, _-_}
 use mathlib.Core.Path.{_≡_, ap, subst}
 use native.Mathlib.Omega.{arith}
 use Rattle.model.proofs.Refusal.{ranged}
-use Rattle.model.specs.Bytes.{speedBytes}
+use Rattle.model.specs.Bytes.{speedBytes, speedCode}
 use Rattle.model.specs.Counted.{counted}
 use Rattle.model.specs.Tests.{inTurn}
 use Rattle.sheets.proofs.Places.{speed-counts}
-use Rattle.codec.specs.Laid.{Laid, SpeedShort, speedCode}
+use Rattle.codec.specs.Laid.{Laid, SpeedShort}
 use Rattle.codec.proofs.Buffers.{laid-none, laid-length, turn-room, turn-laid}
 use Rattle.codec.proofs.Lengths.{speed-short}
 use Rattle.codec.proofs.writer.put_speeds.Statement.{statement}

@@ -5,12 +5,11 @@ use mathlib.Core.Path.{_≡_, refl, sym, ap, _∙_}
 use native.Mathlib.Omega.{arith}
 use lib.ListN.{length}
 use Rattle.model.proofs.Refusal.{ranged}
-use Rattle.model.specs.Bytes.{speedBytes}
+use Rattle.model.specs.Bytes.{speedBytes, speedCode}
 use Rattle.model.specs.Counted.{counted}
 use Rattle.model.specs.Tests.{inTurn}
 use Rattle.model.specs.declared.Speed.{Speed}
 use Rattle.sheets.proofs.Places.{speed-counts}
-use Rattle.codec.specs.Laid.{speedCode}
 use Rattle.codec.proofs.Lengths.{code-upto, turn-next, speed-length, speeds-upto}
 use Rattle.codec.proofs.writer.speeds_length.Statement.{statement}
 use Rattle.codec.proofs.writer.speeds_length.Tie as tie
