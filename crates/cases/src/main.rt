@@ -1,43 +1,33 @@
-// Runs the cases of document 01 that are not marked P, and more of the same kind. Each prints a line that begins with its name; what it
-// should print is stored beside the crate.
-ghost use Prim.Native.Nat.{_≤_};
+// Runs the cases of document 01 that touch bytes and are not marked P, and more inputs of the same kind. Each prints a line that begins
+// with its name; what it should print is stored beside the crate.
 use model::Job;
 use model::Sheet;
 use model::Speed;
+ghost use Prim.Native.Nat.{_≤_};
+
+// A speed and its energy.
+fn speed_of(speed: u32, energy: u32) -> Speed {
+    Speed { speed, energy }
+}
+
+// An entry.
+fn job_of(weight: u32, size: u32, deadline: u32) -> Job {
+    Job {
+        weight,
+        size,
+        deadline,
+    }
+}
 
 // Sheet A of document 01, with something in every place past its counts.
 fn sheet_a() -> Sheet {
-    let mut speeds = [Speed {
-        speed: 7,
-        energy: 7,
-    }; 9];
-    speeds[0] = Speed {
-        speed: 0,
-        energy: 0,
-    };
-    speeds[1] = Speed {
-        speed: 1,
-        energy: 1,
-    };
-    speeds[2] = Speed {
-        speed: 2,
-        energy: 4,
-    };
-    let mut jobs = [Job {
-        weight: 7,
-        size: 7,
-        deadline: 7,
-    }; 32];
-    jobs[0] = Job {
-        weight: 1,
-        size: 0,
-        deadline: 1,
-    };
-    jobs[1] = Job {
-        weight: 1,
-        size: 2,
-        deadline: 2,
-    };
+    let mut speeds = [speed_of(7, 7); 9];
+    speeds[0] = speed_of(0, 0);
+    speeds[1] = speed_of(1, 1);
+    speeds[2] = speed_of(2, 4);
+    let mut jobs = [job_of(7, 7, 7); 32];
+    jobs[0] = job_of(1, 0, 1);
+    jobs[1] = job_of(1, 2, 2);
     Sheet {
         bound: 2,
         speed_count: 3,
@@ -48,26 +38,12 @@ fn sheet_a() -> Sheet {
     }
 }
 
-// One job of weight 2, greatest energy 1.
-fn one_job(horizon: u32) -> Sheet {
-    let mut speeds = [Speed {
-        speed: 0,
-        energy: 0,
-    }; 9];
-    speeds[1] = Speed {
-        speed: 1,
-        energy: 1,
-    };
-    let mut jobs = [Job {
-        weight: 0,
-        size: 0,
-        deadline: 0,
-    }; 32];
-    jobs[0] = Job {
-        weight: 2,
-        size: 0,
-        deadline: 1,
-    };
+// A sheet of speeds 0 and 1 with one job, whose deadline is 1.
+fn one_job(energy: u32, horizon: u32, weight: u32, size: u32) -> Sheet {
+    let mut speeds = [speed_of(0, 0); 9];
+    speeds[1] = speed_of(1, energy);
+    let mut jobs = [job_of(0, 0, 0); 32];
+    jobs[0] = job_of(weight, size, 1);
     Sheet {
         bound: 1,
         speed_count: 2,
@@ -78,20 +54,28 @@ fn one_job(horizon: u32) -> Sheet {
     }
 }
 
-// Every number of a sheet in memory as large as it can be.
-fn all_large() -> Sheet {
-    let speeds = [Speed {
-        speed: 4294967295,
-        energy: 4294967295,
-    }; 9];
-    let jobs = [Job {
-        weight: 4294967295,
-        size: 4294967295,
-        deadline: 4294967295,
-    }; 32];
+// An energy of 70,000 and then a speed that does not rise: the energy is told.
+fn energy_first() -> Sheet {
+    let mut speeds = [speed_of(0, 0); 9];
+    speeds[0] = speed_of(0, 70000);
+    let jobs = [job_of(1, 0, 1); 32];
     Sheet {
-        bound: 4294967295,
-        speed_count: 4294967295,
+        bound: 2,
+        speed_count: 2,
+        speeds,
+        horizon: 1,
+        job_count: 1,
+        jobs,
+    }
+}
+
+// A count that names more places than there are, and every other number but D as large as it can be.
+fn all_large(count: u32) -> Sheet {
+    let speeds = [speed_of(4294967295, 4294967295); 9];
+    let jobs = [job_of(4294967295, 4294967295, 4294967295); 32];
+    Sheet {
+        bound: 2,
+        speed_count: count,
         speeds,
         horizon: 4294967295,
         job_count: 4294967295,
@@ -158,12 +142,12 @@ fn print_sheet(sheet: Sheet) {
 
 // Reads bytes: the number and the sheet.
 fn read_case(name: &[u8], bytes: &[u8]) {
-    let r = codec::read(bytes);
+    let answer = codec::read(bytes);
     io::write_all(1, name);
     io::write_all(1, b": read");
-    print_number(r.number);
+    print_number(answer.number);
     io::write_all(1, b", sheet");
-    let sheet = r.sheet;
+    let sheet = answer.sheet;
     print_sheet(sheet);
     io::write_all(1, b"\n");
 }
@@ -188,12 +172,12 @@ fn write_case(name: &[u8], sheet: Sheet, room: usize)
     requires { ⌜ room ≤ 24 ⌝ }
 {
     let mut buffer = [238u8; 24];
-    let w = codec::write(sheet, &mut buffer[..room]);
+    let answer = codec::write(sheet, &mut buffer[..room]);
     io::write_all(1, name);
     io::write_all(1, b": written");
-    print_number(w.number);
+    print_number(answer.number);
     io::write_all(1, b", length ");
-    io::print_decimal(1, w.length as u64);
+    io::print_decimal(1, answer.length as u64);
     io::write_all(1, b", bytes");
     print_buffer(&buffer);
     io::write_all(1, b"\n");
@@ -212,6 +196,14 @@ fn read_cases() {
     read_case(
         b"weight 2, energy 1, T 58",
         b"\x01\x02\x00\x00\x01\x01\x3a\x01\x02\x00\x01",
+    );
+}
+
+// Numbers of two and three bytes, in their shortest form.
+fn read_longer() {
+    read_case(
+        b"numbers of two and three bytes",
+        b"\x01\x02\x00\x00\x01\xff\xff\x03\x01\x01\xff\x01\xff\x01\x01",
     );
 }
 
@@ -287,35 +279,64 @@ fn read_wholes() {
         b"\x05\x02\x00\x00\x06\x01\x01\x01\x01\x00\x01",
     );
     read_case(
+        b"N 231,880",
+        b"\x06\x02\x00\x00\x04\x01\x01\x01\x01\x00\x01",
+    );
+    read_case(
         b"N 141,778 and T 63",
         b"\x05\x02\x00\x00\x06\x01\x3f\x01\x02\x00\x01",
     );
 }
 
-// A million bytes, of which the third is one too many with the high bit.
+// A million bytes with the high bit set: the third is refused, and none after it is looked at.
 fn million_bytes() {
     let many = [128u8; 1000000];
     read_case(b"1,000,000 bytes of 80", &many);
 }
 
-// Sheet A and sheets in memory that are refused, each for another number.
+// Sheet A and a sheet at the edge of number 9, into buffers that are long enough and too short.
 fn write_cases() {
     write_case(b"sheet A", sheet_a(), 24);
     write_case(b"sheet A into 16 bytes", sheet_a(), 16);
     write_case(b"sheet A into 15 bytes", sheet_a(), 15);
     write_case(b"sheet A into no bytes", sheet_a(), 0);
-    write_case(b"weight 2, energy 1, T 57", one_job(57), 11);
-    write_case(b"weight 2, energy 1, T 58", one_job(58), 11);
-    write_case(b"weight 2, energy 1, T 58, no bytes", one_job(58), 0);
-    write_case(b"all numbers 4,294,967,295", all_large(), 24);
+    write_case(b"weight 2, energy 1, T 57", one_job(1, 57, 2, 0), 11);
+    write_case(b"weight 2, energy 1, T 58", one_job(1, 58, 2, 0), 11);
+    write_case(
+        b"weight 2, energy 1, T 58, no bytes",
+        one_job(1, 58, 2, 0),
+        0,
+    );
+}
+
+// Numbers of two and three bytes, and sheets in memory that are refused for a count, an energy, a horizon and a job.
+fn write_more() {
+    write_case(
+        b"numbers of two and three bytes",
+        one_job(65535, 1, 255, 255),
+        24,
+    );
+    write_case(b"200 speeds", all_large(200), 24);
+    write_case(b"4,294,967,295 speeds", all_large(4294967295), 24);
+    write_case(b"nine speeds of 4,294,967,295", all_large(9), 24);
+    write_case(
+        b"an energy of 70,000 before a wrong speed",
+        energy_first(),
+        24,
+    );
+    write_case(b"an energy of 65,536", one_job(65536, 1, 1, 0), 24);
+    write_case(b"T 201", one_job(1, 201, 1, 0), 24);
+    write_case(b"a size of 256", one_job(1, 1, 1, 256), 24);
 }
 
 fn main() {
     read_cases();
+    read_longer();
     read_bytes();
     read_speeds();
     read_jobs();
     read_wholes();
     write_cases();
+    write_more();
     million_bytes();
 }
