@@ -20,10 +20,11 @@ use Rattle.codec.specs.declared.writer.Written.{Written}
 use Rattle.demands.specs.Calls.{HasPlaces, Reads, Writes}
 use Rattle.demands.proofs.Determined.{read-is, write-is}
 
--- "Write then read gives the sheet with those places zero": what was written, read, is accepted and is the sheet
+-- "Write then read gives the sheet with those places zero": what was written, read, is accepted, and is the sheet with zero in every
+-- place past its counts; so it is the same sheet in every place that counts
 pub write-then-read : {sheet : Sheet} {before after : List ℕ} {w : Written} {r : ReadSheet} → HasPlaces sheet →
     Writes sheet before w after → w .number ≡ 0 → Reads (take (w .length) after) r →
-    (r .number ≡ 0) × (r .sheet ≡ inMemory (counted sheet))
+    (r .number ≡ 0) × (r .sheet ≡ inMemory (counted sheet)) × (counted (r .sheet) ≡ counted sheet)
 write-then-read {sheet = sheet} {before = before} {after = after} {w = w} places writing done reading =
     let s = counted sheet in
     let written = write-is writing in
@@ -34,9 +35,11 @@ write-then-read {sheet = sheet} {before = before} {after = after} {w = w} places
     ap (λ (n : ℕ). take n after) (written .written-is ∙ out .length-is) ∙
     ap (λ (l : List ℕ). take (length (sheetBytes s)) l) (written .buffer-is) ∙ out .bytes-stand in
     let given = written-accepted s (out .is-accepted) well in
-    let promised = read-is reading in (
+    let promised = read-is reading in
+    let memory = promised .sheet-is ∙ ap (λ (l : List ℕ). read l .sheet) bytes ∙ given .1 in (
       promised .number-is ∙ ap (λ (l : List ℕ). read l .number) bytes ∙ given .0,
-      promised .sheet-is ∙ ap (λ (l : List ℕ). read l .sheet) bytes ∙ given .1,
+      memory,
+      ap counted memory ∙ counted-in-memory s well (right .speeds-high) (right .jobs-high),
     )
 
 -- of an accepted read: the places of the sheet that count are those of one accepted sheet, whose bytes were read
