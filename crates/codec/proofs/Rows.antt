@@ -75,13 +75,13 @@ pub record SoFar {A : Type 0} (n : ℕ) (z : A) (place : ℕ) (places : List A) 
   pub goes : whole ≡ inFront entries rest
 
 -- nothing is read yet, and all is left
-pub begins : {A : Type 0} (n : ℕ) (z : A) (read : ℕ → Answer (List A)) (count : ℕ) →
-    SoFar n z 0 (replicate n z) (read count) (read (count - 0))
-begins n z read count =
+pub begins : {A : Type 0} (n : ℕ) (z : A) (read : ℕ → Answer (List A)) (count : ℕ) {places : List A} → places ≡ replicate n z →
+    SoFar n z 0 places (read count) (read (count - 0))
+begins n z read count empty =
     record {
       entries = [];
       many = refl;
-      held = sym (zeros z n n (le-refl n));
+      held = empty ∙ sym (zeros z n n (le-refl n));
       goes = ap read (sym (sub-zero count)) ∙ sym (in-front-none (read (count - 0)));
     }
 

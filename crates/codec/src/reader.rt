@@ -6,9 +6,9 @@ use crate::tables::JobTable;
 use crate::tables::SpeedTable;
 use crate::tables::job_table_at;
 use crate::tables::speed_table_at;
-use model::Job;
+use crate::tables::zero_jobs;
+use crate::tables::zero_speeds;
 use model::Sheet;
-use model::Speed;
 use queues::table;
 use sheets::bound_right;
 use sheets::horizon_right;
@@ -29,15 +29,8 @@ pub struct ReadSheet {
 fn refused(number: u32) -> ReadSheet
     ensures { λ r. ⌜ (r .number ≡ number) × (r .sheet ≡ zeroSheet) ⌝ }
 {
-    let speeds = [Speed {
-        speed: 0,
-        energy: 0,
-    }; 9];
-    let jobs = [Job {
-        weight: 0,
-        size: 0,
-        deadline: 0,
-    }; 32];
+    let speeds = zero_speeds();
+    let jobs = zero_jobs();
     let sheet = Sheet {
         bound: 0,
         speed_count: 0,

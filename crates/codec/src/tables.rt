@@ -14,6 +14,8 @@ use sheets::weight_right;
 ghost use mathlib.Core.Path.{_≡_};
 ghost use Prim.Native.Nat.{_≤_};
 ghost use Rattle.codec.specs.Answers.{speedAnswer, jobAnswer, refusalNumber, tableAnswer, inMemoryAs, speedPlaces, jobPlaces};
+ghost use lib.ListN.{replicate};
+ghost use Rattle.model.specs.Counted.{zeroSpeed, zeroJob};
 ghost use Rattle.model.specs.Reading.{readSpeed, readSpeeds, readSpeedTable, readJob, readJobs, readJobTable};
 
 // A speed with its energy and the next place, or a refusal's number.
@@ -62,14 +64,21 @@ pub struct SpeedTable {
     pub speeds: [Speed; 9],
 }
 
+// No speed in any place.
+pub fn zero_speeds() -> [Speed; 9]
+    ensures { λ r. ⌜ r ≡ replicate 9 zeroSpeed ⌝ }
+{
+    [Speed {
+        speed: 0,
+        energy: 0,
+    }; 9]
+}
+
 // No table: the refusal's number.
 fn no_speeds(number: u32) -> SpeedTable
     ensures { λ r. ⌜ r .number ≡ number ⌝ }
 {
-    let speeds = [Speed {
-        speed: 0,
-        energy: 0,
-    }; 9];
+    let speeds = zero_speeds();
     SpeedTable {
         number,
         next: 0,
@@ -83,10 +92,7 @@ fn speeds_at(bytes: &[u8], at: usize, count: u32) -> SpeedTable
     requires { ⌜ count ≤ 9 ⌝ }
     ensures { λ r. ⌜ tableAnswer (r .number) (r .count) (r .speeds) (r .next) ≡ inMemoryAs speedPlaces (readSpeeds count 0 0 (now (bytes .entry)) at) ⌝ }
 {
-    let mut speeds = [Speed {
-        speed: 0,
-        energy: 0,
-    }; 9];
+    let mut speeds = zero_speeds();
     let mut next = at;
     let mut before = 0;
     let mut place = 0;
@@ -182,15 +188,22 @@ pub struct JobTable {
     pub jobs: [Job; 32],
 }
 
+// No job in any place.
+pub fn zero_jobs() -> [Job; 32]
+    ensures { λ r. ⌜ r ≡ replicate 32 zeroJob ⌝ }
+{
+    [Job {
+        weight: 0,
+        size: 0,
+        deadline: 0,
+    }; 32]
+}
+
 // No table: the refusal's number.
 fn no_jobs(number: u32) -> JobTable
     ensures { λ r. ⌜ r .number ≡ number ⌝ }
 {
-    let jobs = [Job {
-        weight: 0,
-        size: 0,
-        deadline: 0,
-    }; 32];
+    let jobs = zero_jobs();
     JobTable {
         number,
         next: 0,
@@ -204,11 +217,7 @@ fn jobs_at(bytes: &[u8], at: usize, bound: u32, count: u32) -> JobTable
     requires { ⌜ count ≤ 32 ⌝ }
     ensures { λ r. ⌜ tableAnswer (r .number) (r .count) (r .jobs) (r .next) ≡ inMemoryAs jobPlaces (readJobs bound count (now (bytes .entry)) at) ⌝ }
 {
-    let mut jobs = [Job {
-        weight: 0,
-        size: 0,
-        deadline: 0,
-    }; 32];
+    let mut jobs = zero_jobs();
     let mut next = at;
     let mut place = 0;
     while place < count {

@@ -20,10 +20,13 @@ Inv-loop bytes at bound count jobs₀ next₀ place₀ jobs next place =
 abbrev μ-loop : tie.MeasureT-loop
 μ-loop bytes at bound count jobs₀ next₀ place₀ jobs next place = count - place
 
+zero-jobs-requires : tie.Need-zero-jobs-requires Inv-loop μ-loop
+zero-jobs-requires c κs = tt
+
 loop-holds : tie.Need-loop-holds Inv-loop μ-loop
 loop-holds c =
-    let a = c .before .args in
-    (omega arith, begins 32 zeroJob (λ left. readJobs (a .bound) left (a .bytes .now) (a .at)) (a .count))
+    let a = c .before .before .args in
+    (omega arith, begins 32 zeroJob (λ left. readJobs (a .bound) left (a .bytes .now) (a .at)) (a .count) (c .zero-jobs .ensures))
 
 job-at-requires : tie.Need-job-at-requires Inv-loop μ-loop
 job-at-requires c κs = search needs
@@ -79,6 +82,7 @@ jobs-at-spec =
     (tie.spec
     Inv-loop
     μ-loop
+    zero-jobs-requires
     loop-holds
     job-at-requires
     enum-known-answer

@@ -20,10 +20,13 @@ Inv-loop bytes at count speeds₀ next₀ before₀ place₀ speeds next before 
 abbrev μ-loop : tie.MeasureT-loop
 μ-loop bytes at count speeds₀ next₀ before₀ place₀ speeds next before place = count - place
 
+zero-speeds-requires : tie.Need-zero-speeds-requires Inv-loop μ-loop
+zero-speeds-requires c κs = tt
+
 loop-holds : tie.Need-loop-holds Inv-loop μ-loop
 loop-holds c =
-    let a = c .before .args in
-    (omega arith, begins 9 zeroSpeed (λ left. readSpeeds left 0 0 (a .bytes .now) (a .at)) (a .count))
+    let a = c .before .before .args in
+    (omega arith, begins 9 zeroSpeed (λ left. readSpeeds left 0 0 (a .bytes .now) (a .at)) (a .count) (c .zero-speeds .ensures))
 
 speed-at-requires : tie.Need-speed-at-requires Inv-loop μ-loop
 speed-at-requires c κs = search needs
@@ -79,6 +82,7 @@ speeds-at-spec =
     (tie.spec
     Inv-loop
     μ-loop
+    zero-speeds-requires
     loop-holds
     speed-at-requires
     enum-known-answer
