@@ -47,9 +47,9 @@ module _ {most x : ℕ} (at : ℕ) (buffer : List ℕ) (asked : Asked most at x 
   pub more-inside : 128 ≤ x → at < length buffer
   more-inside h = omega (arith, ap length (code-more most x (asked .0) h))
 
-  -- .. the others may be put behind it
-  pub more-asked : 128 ≤ x → Asked (most - 1) (at + 1) (x / 128) (set buffer at (128 + x % 128))
-  more-asked h =
+  -- .. the others may be put behind it, whatever byte stands there
+  pub more-asked : (byte : ℕ) → 128 ≤ x → Asked (most - 1) (at + 1) (x / 128) (set buffer at byte)
+  more-asked byte h =
       let short = others-short most x h (asked .1) in
       (short .0, short .1, simp length-set (omega (arith, ap length (code-more most x (asked .0) h))))
 

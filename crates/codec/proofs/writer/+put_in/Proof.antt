@@ -62,7 +62,7 @@ put-in-put-in-requires : (t : ℕ) → put-in-lts.Need-put-in-requires (put-in-b
 put-in-put-in-requires t c κs =
     let start = c .before .before .before in (
       omega (arith, start .pre .0, start .pre .1 .0),
-      more-asked (start .args .at) (start .args .buffer .now) (start .pre .1) (c .before .if1 .left),
+      more-asked (start .args .at) (start .args .buffer .now) (start .pre .1) _ (c .before .if1 .left),
     )
 
 put-in-same-length-2 : (t : ℕ) → put-in-lts.Need-same-length-2 (put-in-below t, put-in.Post) (put-in-at t) put-in.Post
