@@ -14,3 +14,5 @@ pub use order::queue_count;
 pub use slot::after;
 pub use slot::arrive;
 pub use slot::bearable;
+pub use slot::finishable;
+pub use slot::total;

@@ -6,7 +6,10 @@ mod limits;
 mod ranges;
 mod refusal;
 
+pub use limits::Greatest;
+pub use limits::greatest_of;
 pub use limits::limits_refusal;
+pub use limits::weights;
 pub use ranges::bound_right;
 pub use ranges::deadline_right;
 pub use ranges::energy_right;

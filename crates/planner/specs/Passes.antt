@@ -1,0 +1,117 @@
+-- What the planner's functions promise each other. They compute the recursion of process/specs/Recursion.antt over the lent values; what
+-- the calls promise is in Calls.antt and mentions none of this.
+use Prim.Native.Nat.{ℕ, suc, pred, _+_, _*_, _-_, _^_, _≤_, _<_}
+use mathlib.Core.Path.{_≡_}
+use mathlib.Core.List.{List, []}
+use mathlib.Core.Option.{Option, some}
+use lib.Dec.{T, leb}
+use lib.ListN.{length, getD}
+use Rattle.process.specs.Recursion.{plus, times, sumOrNone, only, Choice, nothing, chosen, better, worth, value, choice}
+use Rattle.model.specs.Counted.{Counted, weightAt, sizeAt, deadlineAt, W, M}
+use Rattle.model.specs.Plan.{processOf, queueAt, noSpeed, placeAt, valuesNeeded, planNeeded}
+use Rattle.model.specs.Queue.{Queue, total, queueIn, bearable, bearableQueues, queueCount, numberOf, run, arrive}
+use Rattle.model.specs.Refusal.{N, sheetRefusal}
+use Rattle.queues.specs.Counts.{HoldsCounts}
+use Rattle.queues.specs.Slot.{kept}
+use Rattle.value.specs.Width.{readAt}
+use Rattle.value.specs.Narrow.{width, valueOf}
+use Rattle.value.specs.Fills.{Fills, numberAt}
+use Rattle.planner.specs.declared.sizes.Sizes.{Sizes}
+use Rattle.planner.specs.declared.sizes.Slot.{Slot}
+
+-- the recursion, of a sheet
+
+-- the value of a queue with k slots left
+unfoldable pub valueWith : Counted → ℕ → Queue → Option ℕ
+valueWith s k w = value (processOf s) (s .jobCount) (weightAt s) k w
+
+-- the least over the speeds, with k slots left after this one
+unfoldable pub choiceWith : Counted → ℕ → Queue → Choice
+choiceWith s k w = choice (processOf s) (s .jobCount) (weightAt s) k (valueWith s k) w
+
+-- what is ahead of a queue after a slot, before the arrival, with k slots left: the weighted sum over the first n entries
+unfoldable pub aheadTo : Counted → ℕ → Queue → ℕ → Option ℕ
+aheadTo s k v n = sumOrNone (λ i. times (weightAt s i) (valueWith s k (arrive v (sizeAt s i) (deadlineAt s i)))) n
+
+abbrev pub aheadOf : Counted → ℕ → Queue → Option ℕ
+aheadOf s k v = aheadTo s k v (s .jobCount)
+
+-- the queues after a slot: "with w(D) standing for w(D+1)" the last total stands twice, and they are numbered by the positions before it
+abbrev pub queueAfter : Counted → ℕ → Queue
+queueAfter s i = kept (getD (bearableQueues (M s) (pred (s .bound))) i [])
+
+-- a row in a buffer of values
+
+-- what the row that begins at place `from` says of a queue: none of one that is not bearable
+unfoldable pub valueInRow : ℕ → List ℕ → ℕ → Queue → Option ℕ
+valueInRow largest l from w = only (bearable largest w) (readAt width l (from + numberOf largest w))
+
+-- n values stand there, those that f gives
+pub record Row (f : ℕ → Option ℕ) (from n : ℕ) (l : List ℕ) : Type 0 where
+  pub room : (from + n) * width .places ≤ length l
+  pub right : (i : ℕ) → i < n → readAt width l (from + i) ≡ f i
+
+-- the values of all queues with k slots left
+abbrev pub ValueRow : Counted → ℕ → ℕ → List ℕ → Type 0
+ValueRow s k from l = Row (λ i. valueWith s k (queueAt s i)) from (N s) l
+
+-- what is ahead of all queues after a slot, with k slots left then
+abbrev pub AheadRow : Counted → ℕ → List ℕ → Type 0
+AheadRow s k l = Row (λ i. aheadOf s k (queueAfter s i)) 0 (queueCount (M s) (pred (s .bound))) l
+
+-- what a speed costs in a queue of D positions, where `ahead` is the buffer of what is ahead: the scaled energy and what is ahead after it
+unfoldable pub priceIn : ℕ → ℕ → List ℕ → Option ℕ → Queue → ℕ → ℕ → Option ℕ
+priceIn largest D ahead scale w speed energy =
+    only (leb (total w 1) speed) (plus (valueInRow largest ahead 0 (queueIn (pred D) (run w speed))) (times energy scale))
+
+-- a choice as the code keeps it: a speed, 255 where there is none, and a value
+abbrev pub byteOf : Choice → ℕ
+byteOf nothing = noSpeed
+byteOf (chosen a v) = a
+
+pub record IsChoice (c : Choice) (speed : ℕ) (r : Option ℕ) : Type 0 where
+  pub speed-is : speed ≡ byteOf c
+  pub value-is : r ≡ worth c
+
+-- one speed more: whatever the choice was before, it is now the better of that and this speed at its price
+abbrev pub IsBetter : ℕ → Option ℕ → ℕ → Option ℕ → ℕ → Option ℕ → Type 0
+IsBetter before r a price speed q = (c : Choice) → IsChoice c before r → IsChoice (better c a price) speed q
+
+-- what is worked out once for a sheet: M, D, N, and how many queues there are after a slot
+pub record Sized (s : Counted) (sizes : Sizes) : Type 0 where
+  pub largest-is : sizes .largest ≡ M s
+  pub bound-is : sizes .bound ≡ s .bound
+  pub queues-is : sizes .queues ≡ N s
+  pub after-is : sizes .after ≡ queueCount (M s) (pred (s .bound))
+
+-- a slot as the code describes it: it is one of the sheet's, and the scale is W to the power of the slots left, this one counted
+pub record InPlan (s : Counted) (slot : Slot) : Type 0 where
+  pub left-low : slot .left < s .horizon
+  pub scale-is : valueOf (slot .scale) ≡ some (W s ^ suc (slot .left))
+
+-- what every pass is given: the counts, a sheet that is accepted, and its sizes
+pub record Prepared (counts : List ℕ) (s : Counted) (sizes : Sizes) : Type 0 where
+  pub holds : HoldsCounts counts
+  pub accepted : sheetRefusal s ≡ 0
+  pub sized : Sized s sizes
+
+-- .. and one of its slots
+pub record Ready (counts : List ℕ) (s : Counted) (sizes : Sizes) (slot : Slot) : Type 0 where
+  pub prepared : Prepared counts s sizes
+  pub in-plan : InPlan s slot
+
+-- what a slot leaves in the values and in the plan: its row in each
+pub record Planned (s : Counted) (slot : Slot) (values₀ plan₀ values plan : List ℕ) : Type 0 where
+  pub values-filled : Fills (width .places) (readAt width) (λ i. valueWith s (suc (slot .left)) (queueAt s i)) (slot .this) (N s) values₀ values
+  pub plan-filled : Fills 1 numberAt (λ i. byteOf (choiceWith s (slot .left) (queueAt s i))) (slot .row) (N s) plan₀ plan
+
+-- how far the lent memory is planned: the last k slots and the end row. What lies behind both tables is what was lent
+pub record PlannedFrom (s : Counted) (k : ℕ) (values₀ plan₀ values plan : List ℕ) : Type 0 where
+  pub values-length : length values ≡ length values₀
+  pub plan-length : length plan ≡ length plan₀
+  pub values-right : (t i : ℕ) → s .horizon ≤ t + k → t ≤ s .horizon → i < N s →
+      readAt width values (placeAt s t i) ≡ valueWith s (s .horizon - t) (queueAt s i)
+  pub plan-right : (t i : ℕ) → s .horizon ≤ t + k → t < s .horizon → i < N s →
+      getD plan (placeAt s t i) 0 ≡ byteOf (choiceWith s (pred (s .horizon - t)) (queueAt s i))
+  pub values-beyond : (p : ℕ) → valuesNeeded s * width .places ≤ p → getD values p 0 ≡ getD values₀ p 0
+  pub plan-beyond : (p : ℕ) → planNeeded s ≤ p → getD plan p 0 ≡ getD plan₀ p 0

@@ -1,0 +1,118 @@
+// The two calls: `plan` and `row`.
+use crate::rows::fill;
+use crate::sizes::place;
+use crate::sizes::sizes_of;
+use model::Sheet;
+use queues::table;
+use sheets::sheet_refusal;
+use value::Value;
+ghost use mathlib.Core.Path.{_≡_};
+ghost use mathlib.Core.Option.{Option·getD};
+ghost use Rattle.model.specs.Counted.{counted};
+ghost use Rattle.model.specs.Plan.{planRefusal, rowRefusal, number12};
+ghost use Rattle.queues.specs.Counts.{HoldsCounts};
+ghost use Rattle.value.specs.Narrow.{valueOf};
+ghost use Rattle.planner.specs.Calls.{IsPlan, IsRow};
+
+// What a plan answers: its number, how many queues there are, and the least energy from the empty queue at slot 0.
+pub struct PlanAnswer {
+    pub number: u32,
+    pub queues: u32,
+    pub least: u64,
+}
+
+// What a refused plan answers.
+fn refused(number: u32) -> PlanAnswer
+    ensures { λ r. ⌜ (r .number ≡ number) × (r .queues ≡ 0) × (r .least ≡ 0) ⌝ }
+{
+    PlanAnswer {
+        number,
+        queues: 0,
+        least: 0,
+    }
+}
+
+// What a plan answers that is not refused: 12 where the empty queue has none.
+fn planned(queues: u32, least: Value) -> PlanAnswer
+    ensures { λ r. ⌜ (r .number ≡ number12 (valueOf least)) × (r .queues ≡ queues) × (r .least ≡ Option·getD (valueOf least) 0) ⌝ }
+{
+    if value::is_none(least) {
+        return PlanAnswer {
+            number: 12,
+            queues,
+            least: 0,
+        };
+    }
+    PlanAnswer {
+        number: 0,
+        queues,
+        least: least.number,
+    }
+}
+
+// 4 to 10, then 11 where the lent plan is too short for T rows.
+fn row_refusal(counts: &[u32; 2352], sheet: Sheet, room: usize) -> u32
+    requires { ⌜ HoldsCounts (now counts) ⌝ }
+    ensures { λ r. ⌜ r ≡ rowRefusal (counted sheet) room ⌝ }
+{
+    let number = sheet_refusal(counts, sheet);
+    if number != 0 {
+        return number;
+    }
+    let sizes = sizes_of(counts, sheet);
+    if room < place(sizes.queues, sheet.horizon, 0) {
+        return 11;
+    }
+    0
+}
+
+// 4 to 10, then 11 where the lent values are too short for T+1 rows or the lent plan for T.
+fn plan_refusal(counts: &[u32; 2352], sheet: Sheet, values_room: usize, plan_room: usize) -> u32
+    requires { ⌜ HoldsCounts (now counts) ⌝ }
+    ensures { λ r. ⌜ r ≡ planRefusal (counted sheet) «values_room» «plan_room» ⌝ }
+{
+    let number = row_refusal(counts, sheet, plan_room);
+    if number != 0 {
+        return number;
+    }
+    let sizes = sizes_of(counts, sheet);
+    if values_room < place(sizes.queues, sheet.horizon, sizes.queues) {
+        return 11;
+    }
+    0
+}
+
+// Works out the plan of a sheet: T+1 rows of values and T rows of plan bytes, in lent memory.
+pub fn plan(sheet: Sheet, values: &mut [u64], plan: &mut [u8]) -> PlanAnswer
+    ensures { λ r. ⌜ IsPlan (counted sheet) (now (values .entry)) (now (plan .entry)) (now (values .exit)) (now (plan .exit)) (r .number) (r .queues) (r .least) ⌝ }
+{
+    let counts = table();
+    let number = plan_refusal(&counts, sheet, values.len(), plan.len());
+    if number != 0 {
+        return refused(number);
+    }
+    let sizes = sizes_of(&counts, sheet);
+    fill(&counts, sheet, sizes, values, plan);
+    planned(
+        sizes.queues as u32,
+        value::load(values, place(sizes.queues, 0, 0)),
+    )
+}
+
+// The part of a plan that belongs to a slot: one byte for each queue, in the order of their numbers. It is empty where the sheet is refused,
+// the plan too short, or the slot not one of the sheet's.
+pub fn row(sheet: Sheet, plan: &[u8], slot: u32) -> &[u8]
+    ensures { λ r. ⌜ IsRow (counted sheet) (now (plan .entry)) slot (now r) ⌝ }
+{
+    let counts = table();
+    if row_refusal(&counts, sheet, plan.len()) != 0 {
+        return &plan[..0];
+    }
+    if sheet.horizon <= slot {
+        return &plan[..0];
+    }
+    let sizes = sizes_of(&counts, sheet);
+    let first = place(sizes.queues, slot, 0);
+    let end = first + sizes.queues;
+    &plan[first..end]
+}

@@ -1,0 +1,68 @@
+-- Laws of what a number says as a value (specs/Width.antt), at any width: when it is none, when one is less than another, and what a sum
+-- is.
+use Prim.Native.Nat.{ℕ, _+_, _*_, _≤_, _<_}
+use mathlib.Core.Path.{_≡_, refl, sym, ap, _∙_, subst}
+use mathlib.Core.Bool.{Bool, true, false, cond}
+use mathlib.Core.Option.{Option, none, some}
+use mathlib.Core.Logic.{⊎-elim}
+use native.Mathlib.Nat.{eq-or-lt-of-le}
+use native.Mathlib.Omega.{arith}
+use borrow.Author.Tests.{lt-ltb, le-ltb, ne-eqb, eqb-true, eqb-false}
+use lib.Dec.{eqb, ltb}
+use Rattle.process.specs.Recursion.{plus, times}
+use Rattle.value.specs.Width.{Width, decode, Below, missing, lessThan}
+
+module _ (W : Width) where
+  -- the test against the code tells whether there is none
+  pub missing-is : (x : ℕ) → eqb x (W .noneCode) ≡ missing (decode W x)
+  missing-is x = go (eqb x (W .noneCode))
+    where
+      go : (b : Bool) → b ≡ missing (cond b none (some x))
+      go true = refl
+      go false = refl
+
+  -- what is none, and what is not
+
+  pub decode-none : (x : ℕ) → missing (decode W x) ≡ true → decode W x ≡ none
+  decode-none x e = ap (λ (b : Bool). cond b none (some x)) (missing-is x ∙ e)
+
+  pub decode-some : (x : ℕ) → missing (decode W x) ≡ false → decode W x ≡ some x
+  decode-some x e = ap (λ (b : Bool). cond b none (some x)) (missing-is x ∙ e)
+
+  -- a number below the code is itself
+  pub decode-below : (x : ℕ) → x < W .noneCode → decode W x ≡ some x
+  decode-below x h = ap (λ (b : Bool). cond b none (some x)) (ne-eqb x (W .noneCode) (λ e. omega arith))
+
+  -- numbers compare as the values do that they say, since the code is above every other
+  pub less-is : (x y : ℕ) → x ≤ W .noneCode → y ≤ W .noneCode → ltb x y ≡ lessThan (decode W x) (decode W y)
+  less-is x y h k = go (eqb x (W .noneCode)) refl (eqb y (W .noneCode)) refl
+    where
+      go : (b : Bool) → eqb x (W .noneCode) ≡ b → (c : Bool) → eqb y (W .noneCode) ≡ c →
+          ltb x y ≡ lessThan (cond b none (some x)) (cond c none (some y))
+      go true e c d = le-ltb x y (omega (arith, eqb-true x (W .noneCode) e))
+      go false e true d =
+          lt-ltb x y (⊎-elim (λ q. absurd (eqb-false x (W .noneCode) e q)) (λ l. omega (arith, eqb-true y (W .noneCode) d)) (eq-or-lt-of-le h))
+      go false e false d = refl
+
+  -- the sum of two that are there, which stays below the limit
+  module _ {first value : Option ℕ} (x by y : ℕ) (here : first ≡ some x) (there : value ≡ some y)
+      (fits : Below (W .limit) (plus first (times by value))) where
+    pub sum-below : x + by * y < W .limit
+    sum-below = subst (λ (r : Option ℕ). Below (W .limit) r) (ap (λ (p : Option ℕ). plus p (times by value)) here ∙ ap (λ (p : Option ℕ). plus (some x) (times by p)) there) fits
+
+    pub sum-is : W .limit ≤ W .noneCode → decode W (x + by * y) ≡ plus first (times by value)
+    sum-is h =
+        decode-below (x + by * y) (omega (arith, sum-below)) ∙
+        sym (ap (λ (p : Option ℕ). plus p (times by value)) here ∙ ap (λ (p : Option ℕ). plus (some x) (times by p)) there)
+
+-- none is the sum where either is none
+
+pub sum-first-none : (first value : Option ℕ) (by : ℕ) → first ≡ none → first ≡ plus first (times by value)
+sum-first-none first value by e = e ∙ sym (ap (λ (p : Option ℕ). plus p (times by value)) e)
+
+pub sum-other-none : (first value : Option ℕ) (by : ℕ) → value ≡ none → value ≡ plus first (times by value)
+sum-other-none first value by e = e ∙ sym (ap (λ (p : Option ℕ). plus first (times by p)) e ∙ absorbed first)
+  where
+    absorbed : (first : Option ℕ) → plus first none ≡ none
+    absorbed none = refl
+    absorbed (some x) = refl

@@ -1,0 +1,81 @@
+// One value: a whole number or none, in the code and at a place of a lent buffer. Whoever works with values does so through these
+// functions, and their contracts are over a width (specs/Width.antt), so that a wider value needs another crate of this shape and no
+// other planner.
+ghost use mathlib.Core.Path.{_≡_};
+ghost use mathlib.Core.Option.{none, some};
+ghost use Prim.Native.Nat.{suc, _*_, _≤_};
+ghost use lib.ListN.{length};
+ghost use Rattle.process.specs.Recursion.{plus, times};
+ghost use Rattle.value.specs.Width.{readAt, Below, missing, lessThan};
+ghost use Rattle.value.specs.Narrow.{width, valueOf};
+ghost use Rattle.value.specs.Fills.{Fills};
+
+// The number that stands for none.
+const NONE: u64 = 18446744073709551615;
+
+pub struct Value {
+    pub number: u64,
+}
+
+// None.
+pub fn none() -> Value
+    ensures { λ r. ⌜ valueOf r ≡ none ⌝ }
+{
+    Value { number: NONE }
+}
+
+// A number as a value.
+pub fn of(x: u32) -> Value
+    ensures { λ r. ⌜ valueOf r ≡ some x ⌝ }
+{
+    Value { number: x as u64 }
+}
+
+// Whether a value is none.
+pub fn is_none(value: Value) -> bool
+    ensures { λ r. ⌜ r ≡ missing (valueOf value) ⌝ }
+{
+    value.number == NONE
+}
+
+// The first value and so many times another, none where either is. It asks that the sum stays below the limit, so that nothing wraps; a
+// product is made only where both are there.
+pub fn add(first: Value, by: u32, value: Value) -> Value
+    requires { ⌜ Below (width .limit) (plus (valueOf first) (times by (valueOf value))) ⌝ }
+    ensures { λ r. ⌜ valueOf r ≡ plus (valueOf first) (times by (valueOf value)) ⌝ }
+{
+    if is_none(first) {
+        return first;
+    }
+    if is_none(value) {
+        return value;
+    }
+    Value {
+        number: first.number + by as u64 * value.number,
+    }
+}
+
+// Whether a value is less than another; none is less than nothing, and whatever is there is less than none.
+pub fn less(value: Value, than: Value) -> bool
+    ensures { λ r. ⌜ r ≡ lessThan (valueOf value) (valueOf than) ⌝ }
+{
+    value.number < than.number
+}
+
+// The value at a place.
+pub fn load(buffer: &[u64], place: usize) -> Value
+    requires { ⌜ suc place * width .places ≤ length (now buffer) ⌝ }
+    ensures { λ r. ⌜ valueOf r ≡ readAt width (now (buffer .entry)) place ⌝ }
+{
+    Value {
+        number: buffer[place],
+    }
+}
+
+// A value put at a place.
+pub fn store(buffer: &mut [u64], place: usize, value: Value)
+    requires { ⌜ suc place * width .places ≤ length (now buffer) ⌝ }
+    ensures { λ r. ⌜ Fills (width .places) (readAt width) (λ i. valueOf value) place 1 (now (buffer .entry)) (now (buffer .exit)) ⌝ }
+{
+    buffer[place] = value.number;
+}

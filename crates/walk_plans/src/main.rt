@@ -1,0 +1,95 @@
+// Plans each sheet whose file is named as an argument, and prints a line for it: the file's name, what the plan answers, and a checksum
+// of all its values and of all its plan bytes. What it should print is stored beside the crate, and came from tests/independent.py.
+ghost use Prim.Native.Nat.{_<_};
+use libc::STDOUT_FILENO;
+
+// A checksum and one number more.
+fn with_number(sum: u64, number: u64) -> u64
+    requires { ⌜ sum < 4294967291 ⌝ }
+    ensures { λ r. ⌜ r < 4294967291 ⌝ }
+{
+    (sum * 1000003 + number % 4294967291) % 4294967291
+}
+
+// The checksum of the first values.
+fn sum_of_values(values: &[u64], count: usize) -> u64 {
+    let mut sum = 0;
+    let mut place = 0;
+    while place < values.len() {
+        if count <= place {
+            return sum;
+        }
+        sum = with_number(sum, values[place]);
+        place += 1;
+    }
+    sum
+}
+
+// The checksum of the first plan bytes.
+fn sum_of_bytes(plan: &[u8], count: usize) -> u64 {
+    let mut sum = 0;
+    let mut place = 0;
+    while place < plan.len() {
+        if count <= place {
+            return sum;
+        }
+        sum = with_number(sum, plan[place] as u64);
+        place += 1;
+    }
+    sum
+}
+
+fn print_field(name: &[u8], number: u64) {
+    io::write_all(STDOUT_FILENO, name);
+    io::print_decimal(STDOUT_FILENO, number);
+}
+
+fn print_line(number: u32, queues: u32, least: u64, values: u64, plan: u64) {
+    print_field(b": number ", number as u64);
+    print_field(b" queues ", queues as u64);
+    print_field(b" least ", least);
+    print_field(b" values ", values);
+    print_field(b" plan ", plan);
+    io::write_all(STDOUT_FILENO, b"\n");
+}
+
+// The sheet of a file; a file that is not there is read as one with no bytes.
+fn sheet_in(path: &[u8]) -> codec::ReadSheet {
+    let mut bytes = [0u8; 512];
+    let fd = os::open_read(path);
+    let length = io::read_full(fd, &mut bytes);
+    libc::close(fd);
+    codec::read(&bytes[..length])
+}
+
+fn plan_file(path: &[u8], values: &mut [u64], plan: &mut [u8]) {
+    let read = sheet_in(path);
+    io::write_all(STDOUT_FILENO, path);
+    if read.number != 0 {
+        print_line(read.number, 0, 0, 0, 0);
+        return;
+    }
+    let sheet = read.sheet;
+    let answer = planner::plan(sheet, values, plan);
+    let bytes = sheet.horizon as usize * answer.queues as usize;
+    let all = sum_of_values(values, bytes + answer.queues as usize);
+    print_line(
+        answer.number,
+        answer.queues,
+        answer.least,
+        all,
+        sum_of_bytes(plan, bytes),
+    );
+}
+
+fn main() {
+    let mut values = [0u64; 816816];
+    let mut plan = [0u8; 753984];
+    let mut path = [0u8; 64];
+    let mut k = 1;
+    while k < os::arg_count() {
+        let length = os::arg(k, &mut path);
+        plan_file(&path[..length], &mut values, &mut plan);
+        k += 1;
+    }
+}

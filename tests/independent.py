@@ -1,0 +1,270 @@
+"""An independent implementation of document 01: reading, refusing and planning.
+
+It was written from the text of document 01 and of the open points decided beside it,
+without looking at the proved code, so that the two can be compared: where they differ,
+one has misread the page. It is plain rather than fast: exact integers, queues listed
+one by one, backward induction as on paper. Quotation marks hold 01's own words.
+
+    python3 tests/independent.py FILE...
+
+prints a line for each file of sheet bytes, `NAME: number R queues N least L values V
+plan P`. R is the number of the read if that is refused, else the planner's 0 or 12; N
+and L are what the planner reports; V and P are the checksums (see `checksum`) of all
+(T+1)*N values and all T*N plan bytes. A refused sheet has 0 everywhere but in R.
+"""
+
+import sys
+from dataclasses import dataclass
+from itertools import islice
+from pathlib import Path
+
+MOST_SPEEDS, MOST_JOBS, MOST_QUEUES = 9, 32, 65_535
+NONE_VALUE, NONE_SPEED = 2**64 - 1, 255  # how "none" is written in values and plan
+
+
+class Refused(Exception):
+    """A refusal; `number` is that of 01's table "Numbers returned"."""
+
+    def __init__(self, number):
+        super().__init__(f"refused {number}")
+        self.number = number
+
+
+@dataclass(frozen=True)
+class Sheet:
+    """A sheet in memory. It "has room for all entries; places past the counts are
+    ignored by every call and zero when read". The default is the all-zero sheet."""
+
+    bound: int = 0  # D
+    speed_count: int = 0
+    speeds: tuple = ((0, 0),) * MOST_SPEEDS  # (speed, energy)
+    horizon: int = 0  # T
+    job_count: int = 0
+    jobs: tuple = ((0, 0, 0),) * MOST_JOBS  # (weight, size, deadline)
+
+    def used_speeds(self):
+        return self.speeds[: self.speed_count]
+
+    def used_jobs(self):
+        return self.jobs[: self.job_count]
+
+    def largest_speed(self):
+        """M. The speeds rise, so it is the last."""
+        return self.used_speeds()[-1][0]
+
+    def weight_sum(self):
+        """W."""
+        return sum(weight for weight, _, _ in self.used_jobs())
+
+
+def make_sheet(bound, speeds, horizon, jobs):
+    """The sheet of these entries, with zero in the places past the counts."""
+    zero = Sheet()
+    return Sheet(bound, len(speeds), (*speeds, *zero.speeds[len(speeds):]),
+                 horizon, len(jobs), (*jobs, *zero.jobs[len(jobs):]))
+
+
+def read_number(stream):
+    """The next number of a stream of bytes: "groups of seven bits, the lowest group
+    first, the high bit set on every byte but the last. At most three bytes"."""
+    value = 0
+    for group in range(3):
+        byte = next(stream, None)
+        if byte is None:
+            raise Refused(1)
+        value += (byte % 128) << (7 * group)
+        if byte < 128:
+            # "a last byte of 0 is allowed only when it is the single byte"
+            if byte == 0 and group > 0:
+                raise Refused(2)
+            return value
+    raise Refused(2)  # "its third byte has the high bit"
+
+
+def byte_fields(stream):
+    """The fields of sheet bytes, each read only when it is asked for."""
+    while True:
+        yield read_number(stream)
+
+
+def memory_fields(sheet):
+    """The fields of a sheet in memory, in the order of the bytes. None is looked at
+    before it is asked for, so nothing past a wrong count is."""
+    yield sheet.bound
+    yield sheet.speed_count
+    for entry in sheet.used_speeds():
+        yield from entry
+    yield sheet.horizon
+    yield sheet.job_count
+    for entry in sheet.used_jobs():
+        yield from entry
+
+
+def within(value, least, most, number):
+    """The value, or the refusal with this number when it is out of range."""
+    if not least <= value <= most:
+        raise Refused(number)
+    return value
+
+
+def take_sheet(fields):
+    """The sheet of these fields. For each, "its own range is tested before the next
+    field"; a sheet in memory is tested "in that field order" as well."""
+    bound = within(next(fields), 1, 6, 4)
+    speeds = []
+    for _ in range(within(next(fields), 2, MOST_SPEEDS, 5)):
+        # "first not 0, not strictly rising, or one above 8"
+        least, most = (speeds[-1][0] + 1, 8) if speeds else (0, 0)
+        speed = within(next(fields), least, most, 5)
+        energy = within(next(fields), 0, 65_535, 6)
+        speeds.append((speed, energy))
+    horizon = within(next(fields), 1, 200, 7)
+    jobs = []
+    for _ in range(within(next(fields), 1, MOST_JOBS, 8)):
+        weight = within(next(fields), 1, 255, 8)
+        size = within(next(fields), 0, 255, 8)
+        deadline = within(next(fields), 1, bound, 8)
+        jobs.append((weight, size, deadline))
+    return make_sheet(bound, speeds, horizon, jobs)
+
+
+def refuse_too_large(sheet):
+    """Numbers 9 and 10, the last two tests of every sheet."""
+    # "G is the greatest energy, or 1 if that is 0"
+    greatest = max(1, *(energy for _, energy in sheet.used_speeds()))
+    scaled = sheet.horizon * greatest * sheet.weight_sum() ** sheet.horizon
+    within(scaled, 0, 2**63 - 1, 9)
+    # One queue too many settles "N above 65,535"; the others need not be made.
+    queues = bearable_queues(sheet.bound, sheet.largest_speed())
+    within(sum(1 for _ in islice(queues, MOST_QUEUES + 1)), 0, MOST_QUEUES, 10)
+
+
+def read_sheet(data):
+    """(number, sheet); "a refused read gives an all-zero sheet"."""
+    stream = iter(data)
+    try:
+        sheet = take_sheet(byte_fields(stream))
+        if next(stream, None) is not None:
+            raise Refused(3)  # "After the last field: 3, 9, 10."
+        refuse_too_large(sheet)
+    except Refused as refusal:
+        return refusal.number, Sheet()
+    return 0, sheet
+
+
+def refuse_sheet(sheet):
+    """The number of a sheet in memory: 4 to 10, or 0 when it is accepted."""
+    try:
+        refuse_too_large(take_sheet(memory_fields(sheet)))
+    except Refused as refusal:
+        return refusal.number
+    return 0
+
+
+def bearable_queues(bound, largest_speed, queue=()):
+    """The bearable queues that begin with `queue`, in dictionary order: never falling,
+    and "w(u) is at most u times M for each u"."""
+    if len(queue) == bound:
+        yield queue
+        return
+    least = queue[-1] if queue else 0
+    most = (len(queue) + 1) * largest_speed
+    for work in range(least, most + 1):
+        yield from bearable_queues(bound, largest_speed, (*queue, work))
+
+
+def run_slot(queue, speed):
+    """The queue after a slot and before the arrival: "w'(u) = w(u+1) - s, or 0 if that
+    is negative, with w(D) standing for w(D+1)"."""
+    return tuple([max(0, work - speed) for work in (*queue[1:], queue[-1])])
+
+
+def add_job(queue, size, deadline):
+    """The queue with a job: "c is added to w'(u) for every u from d to D"."""
+    before = deadline - 1
+    return (*queue[:before], *[work + size for work in queue[before:]])
+
+
+def choices(sheet, queue):
+    """(speed, energy, queue after the slot) for each speed that "is at least w(1)",
+    slowest first. They are the same in every slot, so they are made once."""
+    return [(speed, energy, run_slot(queue, speed))
+            for speed, energy in sheet.used_speeds() if speed >= queue[0]]
+
+
+def value_after(sheet, after, numbers, next_values):
+    """The sum over the entries of weight times the value of the queue each leads to.
+    None when one leads to a queue that is not bearable or has no value: a way is good
+    only when it is so "along every list of entries"."""
+    total = 0
+    for weight, size, deadline in sheet.used_jobs():
+        number = numbers.get(add_job(after, size, deadline))
+        if number is None or next_values[number] == NONE_VALUE:
+            return NONE_VALUE
+        total += weight * next_values[number]
+    return total
+
+
+def plan_row(sheet, slot, choices_of_queues, numbers, next_values):
+    """The values and the plan speeds of one slot, from the values of the next."""
+    # This slot's energy is spent along every list of the T-t entries to come, and the
+    # products of the weights of all those lists add up to W to the power T-t.
+    scale = sheet.weight_sum() ** (sheet.horizon - slot)
+    known = {}  # value_after by queue: many queues and speeds lead to each of a few
+    values, speeds = [], []
+    for choices_of_queue in choices_of_queues:
+        value, plan_speed = NONE_VALUE, NONE_SPEED  # number 9 keeps every cost below
+        for speed, energy, after in choices_of_queue:
+            if after not in known:
+                known[after] = value_after(sheet, after, numbers, next_values)
+            if known[after] == NONE_VALUE:
+                continue
+            cost = energy * scale + known[after]
+            if cost < value:  # not when equal: "the smallest first speed"
+                value, plan_speed = cost, speed
+        values.append(value)
+        speeds.append(plan_speed)
+    return values, speeds
+
+
+def plan_sheet(sheet):
+    """(number, N, least energy, values, plan), the last two for every slot and every
+    bearable queue, also those that "can't be reached from empty"."""
+    number = refuse_sheet(sheet)
+    if number != 0:
+        return number, 0, 0, [], []
+    queues = list(bearable_queues(sheet.bound, sheet.largest_speed()))
+    numbers = {queue: place for place, queue in enumerate(queues)}
+    choices_of_queues = [choices(sheet, queue) for queue in queues]
+    # Backwards: "row T of values is 0 for every bearable queue".
+    values, plan = [0] * len(queues), []
+    for slot in reversed(range(sheet.horizon)):
+        next_values = values[: len(queues)]
+        row, plan_of_slot = plan_row(sheet, slot, choices_of_queues, numbers, next_values)
+        values, plan = row + values, plan_of_slot + plan
+    # "The empty queue is 0"; 12 "fills both buffers and reports N, least energy 0".
+    if values[0] == NONE_VALUE:
+        return 12, len(queues), 0, values, plan
+    return 0, len(queues), values[0], values, plan
+
+
+def checksum(numbers):
+    """One number for a long list, easily computed in any language."""
+    total = 0
+    for number in numbers:
+        total = (total * 1_000_003 + number % 4_294_967_291) % 4_294_967_291
+    return total
+
+
+def report(path):
+    """The line for a file of sheet bytes."""
+    read, sheet = read_sheet(path.read_bytes())
+    # The all-zero sheet of a refused read is refused by the planner in turn.
+    planned, queue_count, least, values, plan = plan_sheet(sheet)
+    return (f"{path.stem}: number {read or planned} queues {queue_count} least {least}"
+            f" values {checksum(values)} plan {checksum(plan)}")
+
+
+if __name__ == "__main__":
+    for name in sys.argv[1:]:
+        print(report(Path(name)))
