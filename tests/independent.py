@@ -18,7 +18,7 @@ from dataclasses import dataclass
 from itertools import islice
 from pathlib import Path
 
-MOST_SPEEDS, MOST_JOBS, MOST_QUEUES = 9, 32, 65_535
+MOST_QUEUES = 65_535
 NONE_VALUE, NONE_SPEED = 2**64 - 1, 255  # how "none" is written in values and plan
 
 
@@ -32,36 +32,21 @@ class Refused(Exception):
 
 @dataclass(frozen=True)
 class Sheet:
-    """A sheet in memory. It "has room for all entries; places past the counts are
-    ignored by every call and zero when read". The default is the all-zero sheet."""
+    """A sheet in memory. The counts are the lengths, so there are no places past them.
+    The default is the all-zero sheet."""
 
     bound: int = 0  # D
-    speed_count: int = 0
-    speeds: tuple = ((0, 0),) * MOST_SPEEDS  # (speed, energy)
+    speeds: tuple = ()  # (speed, energy)
     horizon: int = 0  # T
-    job_count: int = 0
-    jobs: tuple = ((0, 0, 0),) * MOST_JOBS  # (weight, size, deadline)
-
-    def used_speeds(self):
-        return self.speeds[: self.speed_count]
-
-    def used_jobs(self):
-        return self.jobs[: self.job_count]
+    jobs: tuple = ()  # (weight, size, deadline)
 
     def largest_speed(self):
         """M. The speeds rise, so it is the last."""
-        return self.used_speeds()[-1][0]
+        return self.speeds[-1][0]
 
     def weight_sum(self):
         """W."""
-        return sum(weight for weight, _, _ in self.used_jobs())
-
-
-def make_sheet(bound, speeds, horizon, jobs):
-    """The sheet of these entries, with zero in the places past the counts."""
-    zero = Sheet()
-    return Sheet(bound, len(speeds), (*speeds, *zero.speeds[len(speeds):]),
-                 horizon, len(jobs), (*jobs, *zero.jobs[len(jobs):]))
+        return sum(weight for weight, _, _ in self.jobs)
 
 
 def read_number(stream):
@@ -88,15 +73,15 @@ def byte_fields(stream):
 
 
 def memory_fields(sheet):
-    """The fields of a sheet in memory, in the order of the bytes. None is looked at
-    before it is asked for, so nothing past a wrong count is."""
+    """The fields of a sheet in memory, in the order of the bytes, each looked at only
+    when it is asked for: no entry after a wrong count is."""
     yield sheet.bound
-    yield sheet.speed_count
-    for entry in sheet.used_speeds():
+    yield len(sheet.speeds)
+    for entry in sheet.speeds:
         yield from entry
     yield sheet.horizon
-    yield sheet.job_count
-    for entry in sheet.used_jobs():
+    yield len(sheet.jobs)
+    for entry in sheet.jobs:
         yield from entry
 
 
@@ -112,7 +97,7 @@ def take_sheet(fields):
     field"; a sheet in memory is tested "in that field order" as well."""
     bound = within(next(fields), 1, 6, 4)
     speeds = []
-    for _ in range(within(next(fields), 2, MOST_SPEEDS, 5)):
+    for _ in range(within(next(fields), 2, 9, 5)):
         # "first not 0, not strictly rising, or one above 8"
         least, most = (speeds[-1][0] + 1, 8) if speeds else (0, 0)
         speed = within(next(fields), least, most, 5)
@@ -120,18 +105,18 @@ def take_sheet(fields):
         speeds.append((speed, energy))
     horizon = within(next(fields), 1, 200, 7)
     jobs = []
-    for _ in range(within(next(fields), 1, MOST_JOBS, 8)):
+    for _ in range(within(next(fields), 1, 32, 8)):
         weight = within(next(fields), 1, 255, 8)
         size = within(next(fields), 0, 255, 8)
         deadline = within(next(fields), 1, bound, 8)
         jobs.append((weight, size, deadline))
-    return make_sheet(bound, speeds, horizon, jobs)
+    return Sheet(bound, tuple(speeds), horizon, tuple(jobs))
 
 
 def refuse_too_large(sheet):
     """Numbers 9 and 10, the last two tests of every sheet."""
     # "G is the greatest energy, or 1 if that is 0"
-    greatest = max(1, *(energy for _, energy in sheet.used_speeds()))
+    greatest = max(1, *(energy for _, energy in sheet.speeds))
     scaled = sheet.horizon * greatest * sheet.weight_sum() ** sheet.horizon
     within(scaled, 0, 2**63 - 1, 9)
     # One queue too many settles "N above 65,535"; the others need not be made.
@@ -189,15 +174,15 @@ def choices(sheet, queue):
     """(speed, energy, queue after the slot) for each speed that "is at least w(1)",
     slowest first. They are the same in every slot, so they are made once."""
     return [(speed, energy, run_slot(queue, speed))
-            for speed, energy in sheet.used_speeds() if speed >= queue[0]]
+            for speed, energy in sheet.speeds if speed >= queue[0]]
 
 
 def value_after(sheet, after, numbers, next_values):
     """The sum over the entries of weight times the value of the queue each leads to.
-    None when one leads to a queue that is not bearable or has no value: a way is good
+    No value when one leads to a queue that is not bearable or has none: a way is good
     only when it is so "along every list of entries"."""
     total = 0
-    for weight, size, deadline in sheet.used_jobs():
+    for weight, size, deadline in sheet.jobs:
         number = numbers.get(add_job(after, size, deadline))
         if number is None or next_values[number] == NONE_VALUE:
             return NONE_VALUE

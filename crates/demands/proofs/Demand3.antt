@@ -20,7 +20,7 @@ use Rattle.demands.specs.Paired.{Paired, NowhereLonger}
 
 module _ {first second : Counted} {there back : ℕ → ℕ} (p : Paired first second there back) where
   -- the second's largest speed is no less
-  largest : M first ≤ M second
+  pub largest : M first ≤ M second
   largest = speed-least first (M second) (λ a t. speed-upto second a (p .has-speed a t))
 
   -- a queue nowhere longer stays so after a slot at the same speed and paired entries

@@ -10,7 +10,12 @@ use Rattle.model.specs.declared.Sheet.{Sheet}
 use Rattle.codec.specs.Calls.{IsRead, IsWritten}
 use Rattle.codec.specs.declared.reader.ReadSheet.{ReadSheet}
 use Rattle.codec.specs.declared.writer.Written.{Written}
-use Rattle.demands.specs.Calls.{Reads, Writes}
+use Rattle.model.specs.Plan.{valueIn, Leaves, row}
+use Rattle.model.specs.Plan as model-plan
+use Rattle.model.proofs.Leaves.{leaves-unique}
+use Rattle.planner.specs.Calls.{IsPlan, IsRow}
+use Rattle.planner.specs.declared.calls.PlanAnswer.{PlanAnswer}
+use Rattle.demands.specs.Calls.{Reads, Writes, Plans, Rows}
 
 -- read
 
@@ -58,3 +63,49 @@ write-determined {before = before} {a = a} {b = b} view first second =
           (one .written-is ∙ ap (λ (s : Counted). write s before .written) view ∙ sym (two .written-is)),
       one .buffer-is ∙ ap (λ (s : Counted). write s before .buffer) view ∙ sym (two .buffer-is),
     )
+
+-- plan
+
+-- what a plan promises of this sheet and this lent memory
+pub plan-is : {sheet : Sheet} {values₀ plan₀ values bytes : List ℕ} {answer : PlanAnswer} → Plans sheet values₀ plan₀ answer values bytes →
+    IsPlan (counted sheet) values₀ plan₀ values bytes (answer .number) (answer .queues) (answer .least)
+plan-is {sheet = sheet} {values₀ = values₀} {plan₀ = plan₀} {values = values} {answer = answer} call =
+    let promised : Sheet → List ℕ → List ℕ → List ℕ → List ℕ → Type 0 =
+    λ s v p w q. IsPlan (counted s) v p w q (answer .number) (answer .queues) (answer .least) in
+    let plan-lent = now (call .lent .1 .1 .0) in
+    let values-left = now (call .at-exit .1 .0) in
+    let plan-left = now (call .at-exit .1 .1 .0) in
+    let of-sheet = subst (λ (s : Sheet). promised s (now (call .lent .1 .0)) plan-lent values-left plan-left) (call .sheet-is) (call .contract) in
+    let of-values = subst (λ (l : List ℕ). promised sheet l plan-lent values-left plan-left) (call .values-before) of-sheet in
+    let of-plan = subst (λ (l : List ℕ). promised sheet values₀ l values-left plan-left) (call .plan-before) of-values in
+    let left-values = subst (λ (l : List ℕ). promised sheet values₀ plan₀ l plan-left) (call .values-after) of-plan in
+    subst (λ (l : List ℕ). promised sheet values₀ plan₀ values l) (call .plan-after) left-values
+
+-- sheets with equal views, planned in equal lent memory: equal values, equal plans, equal answers. Of one sheet: the contract determines
+-- every place and the answer
+pub plan-determined : {s t : Sheet} {values₀ plan₀ values bytes values′ bytes′ : List ℕ} {a b : PlanAnswer} → counted s ≡ counted t →
+    Plans s values₀ plan₀ a values bytes → Plans t values₀ plan₀ b values′ bytes′ → (values ≡ values′) × (bytes ≡ bytes′) × (a ≡ b)
+plan-determined {t = t} {values₀ = values₀} {plan₀ = plan₀} {values = values} {bytes = bytes} {values′ = values′} {bytes′ = bytes′} {a = a} {b = b} view first second =
+    let answered : PlanAnswer → model-plan.PlanAnswer = λ x. record { number = x .number; queues = x .queues; least = x .least } in
+    let one = subst (λ (s : Counted). Leaves valueIn s values₀ plan₀ values bytes (answered a)) view (plan-is first) in
+    let same = leaves-unique (counted t) values₀ plan₀ values bytes values′ bytes′ (answered a) (answered b) one (plan-is second) in
+    let back : model-plan.PlanAnswer → PlanAnswer = λ x. record { number = x .number; queues = x .queues; least = x .least } in
+    (same .0, same .1, ap back (same .2))
+
+-- row
+
+-- what a row promises of this sheet, this plan and this slot
+pub row-is : {sheet : Sheet} {bytes part : List ℕ} {slot : ℕ} → Rows sheet bytes slot part → IsRow (counted sheet) bytes slot part
+row-is {sheet = sheet} {bytes = bytes} {slot = slot} call =
+    let promised : Sheet → List ℕ → ℕ → List ℕ → Type 0 = λ s l t p. IsRow (counted s) l t p in
+    let slot-asked = call .lent .1 .1 .0 in
+    let of-sheet = subst (λ (s : Sheet). promised s (now (call .lent .1 .0)) slot-asked (now (call .answer))) (call .sheet-is) (call .contract) in
+    let of-plan = subst (λ (l : List ℕ). promised sheet l slot-asked (now (call .answer))) (call .plan-is) of-sheet in
+    let of-slot = subst (λ (t : ℕ). promised sheet bytes t (now (call .answer))) (call .slot-is) of-plan in
+    subst (λ (p : List ℕ). promised sheet bytes slot p) (call .answer-is) of-slot
+
+-- sheets with equal views, the same plan and the same slot: the same part
+pub row-determined : {s t : Sheet} {bytes part part′ : List ℕ} {slot : ℕ} → counted s ≡ counted t →
+    Rows s bytes slot part → Rows t bytes slot part′ → part ≡ part′
+row-determined {bytes = bytes} {slot = slot} view first second =
+    row-is first ∙ ap (λ (s : Counted). row s bytes slot) view ∙ sym (row-is second)

@@ -3,7 +3,7 @@
 use Prim.Native.Nat.{ℕ}
 use mathlib.Core.Path.{_≡_}
 use mathlib.Core.List.{List}
-use borrow.Fn.Kinds.{Dens, endedOf}
+use borrow.Fn.Kinds.{Dens, resT, endedOf}
 use contract.Lifetimes.{Lfts}
 use denote.Ref.{now}
 use lib.ListN.{length}
@@ -15,6 +15,11 @@ use Rattle.codec.proofs.read.Kinds as read-kinds
 use Rattle.codec.proofs.read.Reads as read
 use Rattle.codec.proofs.write.Kinds as write-kinds
 use Rattle.codec.proofs.write.Reads as write
+use Rattle.planner.specs.declared.calls.PlanAnswer.{PlanAnswer}
+use Rattle.planner.proofs.plan.Kinds as plan-kinds
+use Rattle.planner.proofs.plan.Reads as plan
+use Rattle.planner.proofs.row.Kinds as row-kinds
+use Rattle.planner.proofs.row.Reads as row
 
 -- "In memory a sheet has room for all entries". The checker sees an array as a list of any length; nine and 32 are what the machine gives
 pub record HasPlaces (sheet : Sheet) : Type 0 where
@@ -38,3 +43,27 @@ pub record Writes (sheet : Sheet) (before : List ℕ) (answer : Written) (after 
   pub before-is : now (lent .1 .0) ≡ before
   pub after-is : now (at-exit .1 .0) ≡ after
   pub contract : write.Post lifetimes lent answer at-exit
+
+-- `plan` was given this sheet and lent these values and this plan; it answered this and left them so
+pub record Plans (sheet : Sheet) (values₀ plan₀ : List ℕ) (answer : PlanAnswer) (values bytes : List ℕ) : Type 0 where
+  pub lifetimes : Lfts 2
+  pub lent : Dens lifetimes plan-kinds.ps
+  pub at-exit : AtExit (endedOf 2 plan-kinds.ps plan-kinds.r) lifetimes
+  pub sheet-is : lent .0 ≡ sheet
+  pub values-before : now (lent .1 .0) ≡ values₀
+  pub plan-before : now (lent .1 .1 .0) ≡ plan₀
+  pub values-after : now (at-exit .1 .0) ≡ values
+  pub plan-after : now (at-exit .1 .1 .0) ≡ bytes
+  pub contract : plan.Post lifetimes lent answer at-exit
+
+-- `row` was given this sheet, lent this plan and asked for this slot; it answered this part
+pub record Rows (sheet : Sheet) (bytes : List ℕ) (slot : ℕ) (part : List ℕ) : Type 0 where
+  pub lifetimes : Lfts 1
+  pub lent : Dens lifetimes row-kinds.ps
+  pub at-exit : AtExit (endedOf 1 row-kinds.ps row-kinds.r) lifetimes
+  pub sheet-is : lent .0 ≡ sheet
+  pub plan-is : now (lent .1 .0) ≡ bytes
+  pub slot-is : lent .1 .1 .0 ≡ slot
+  pub answer : resT row-kinds.r lifetimes .Denot
+  pub answer-is : now answer ≡ part
+  pub contract : row.Post lifetimes lent answer at-exit

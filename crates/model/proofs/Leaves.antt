@@ -34,7 +34,7 @@ parts-same l m n long front rest = ext-getD 0 l m long (λ j h. go j (ltb j n) r
         at-rest l j h ∙ ap (λ (x : List ℕ). getD x (j - n) 0) rest ∙ sym (at-rest m j h)
 
 -- a place says one thing: places that are read alike hold the same number
-decoded-same : (x y : ℕ) → decoded x ≡ decoded y → x ≡ y
+pub decoded-same : (x y : ℕ) → decoded x ≡ decoded y → x ≡ y
 decoded-same x y = go (eqb x noValue) refl (eqb y noValue) refl
   where
     read-by : Bool → ℕ → Option ℕ
@@ -57,14 +57,14 @@ module _ (s : Counted) where
   one-byte t w (some v) byte other d e = first-unique (processOf s) (s .jobCount) (weightAt s) d e
 
   -- both places of a slot and queue
-  decided-same : (t i : ℕ) {r q : Option ℕ} {byte other : ℕ} → Decided s t i r byte → Decided s t i q other → (r ≡ q) × (byte ≡ other)
+  pub decided-same : (t i : ℕ) {r q : Option ℕ} {byte other : ℕ} → Decided s t i r byte → Decided s t i q other → (r ≡ q) × (byte ≡ other)
   decided-same t i {byte = byte} {other = other} d e =
       let same = one-value t (queueAt s i) (d .r) (e .r) (d .is-value) (e .is-value) in
       let plan = subst (λ (r : Option ℕ). IsPlanByte s t (queueAt s i) r byte) same (d .in-plan) in
       (d .in-values ∙ same ∙ sym (e .in-values), one-byte t (queueAt s i) (e .r) byte other plan (e .in-plan))
 
   -- the answer
-  answer-same : (a b : PlanAnswer) → a .queues ≡ b .queues → FromEmpty s a → FromEmpty s b → a ≡ b
+  pub answer-same : (a b : PlanAnswer) → a .queues ≡ b .queues → FromEmpty s a → FromEmpty s b → a ≡ b
   answer-same a b queues d e =
       let same = one-value 0 (emptyQueue (s .bound)) (d .r) (e .r) (d .is-value) (e .is-value) in
       let number = d .number ∙ ap number12 same ∙ sym (e .number) in

@@ -1,0 +1,278 @@
+"""Checks independent.py: document 01's cases, and the induction against the definition.
+
+    python3 tests/test_independent.py
+
+prints `ok`, or stops at the first check that fails. The cases are those of 01's
+"Worked sheet" and of the open points that concern reading, refusing and planning.
+`check_ways` then tries ALL ways of small sheets, as 01 defines them, with queues
+stepped by code of its own; nothing there uses the backward induction.
+"""
+
+import random
+import sys
+from itertools import product
+
+sys.dont_write_bytecode = True  # no folder of compiled files beside the tests
+from independent import (
+    NONE_SPEED, NONE_VALUE, Refused, Sheet, add_job, bearable_queues, checksum,
+    memory_fields, plan_sheet, read_number, read_sheet, refuse_sheet, run_slot,
+)
+
+SHEET_A = Sheet(2, ((0, 0), (1, 1), (2, 4)), 2, ((1, 0, 1), (1, 2, 2)))
+SHEET_A_BYTES = "02 03 00 00 01 01 02 04 02 02 01 00 01 01 02 02"
+
+
+def read_hex(text):
+    """The number that reading these sheet bytes gives, once the sheet agrees with it."""
+    number, sheet = read_sheet(bytes.fromhex(text))
+    assert (number == 0) == (sheet != Sheet()), text
+    return number
+
+
+def read_one(text):
+    """What reading one number gives: its value or, as text, its refusal."""
+    try:
+        return read_number(iter(bytes.fromhex(text)))
+    except Refused as refusal:
+        return str(refusal)
+
+
+def sheet_bytes(sheet):
+    """The bytes of a sheet, to read back; 01's writer, without its refusals."""
+    data = []
+    for number in memory_fields(sheet):
+        while number >= 128:
+            data.append(128 + number % 128)
+            number //= 128
+        data.append(number)
+    return bytes(data)
+
+
+def one_job(bound, speeds, horizon, job):
+    return Sheet(bound, tuple(speeds), horizon, (job,))
+
+
+def check_numbers():
+    assert read_one("82 01") == 130 and read_one("AC 02") == 300
+    assert read_one("00") == 0 and read_one("7F") == 127 and read_one("FF FF 7F") == 2**21 - 1
+    assert read_one("80 00") == read_one("FF FF FF") == "refused 2"
+    assert read_one("FF 80 00") == "refused 2"  # three bytes, the last of them 0
+    assert read_one("FF FF") == read_one("") == "refused 1"
+
+
+def check_reading():
+    assert read_sheet(bytes.fromhex(SHEET_A_BYTES)) == (0, SHEET_A)
+    whole = bytes.fromhex(SHEET_A_BYTES)
+    assert sheet_bytes(SHEET_A) == whole
+    for length in range(len(whole)):
+        assert read_sheet(whole[:length]) == (1, Sheet())
+    head = "02 02 00 00 01 01 "  # D 2, speeds 0 and 1 with energies 0 and 1
+    for number, texts in {
+        2: ["80 00", "02 80 00", "02 83 80 80", head + "02 81 00"],
+        3: [SHEET_A_BYTES + "00", SHEET_A_BYTES + "FF FF FF", head + "3A 01 02 00 01 00"],
+        4: ["00", "07", "07 80 00", "80 01"],
+        5: ["02 01", "02 0A", "02 02 01", "02 02 00 00 00", "02 03 00 00 02 00 01",
+            "02 02 00 00 09", "02 03 00 00 08 00 09"],
+        6: ["02 02 00 80 80 04", "02 02 00 F0 A2 04 00 00"],  # the second: open point 1
+        7: [head + "00", head + "C9 01"],
+        8: [head + "02 00", head + "02 21", head + "02 01 00", head + "02 01 80 02",
+            head + "02 01 01 80 02", head + "02 01 01 00 00", head + "02 01 01 00 03"],
+        9: [head + "3A 01 02 00 01", "05 02 00 00 06 01 3A 01 02 00 01"],  # 9 before 10
+        10: ["05 02 00 00 06 01 01 01 01 00 01", "06 02 00 00 08 01 01 01 01 00 01"],
+        0: [SHEET_A_BYTES, head + "39 01 02 00 01", "02 02 00 FF FF 03 01 00 01 01 01 00 02",
+            head + "C8 01 01 01 FF 01 02"],
+    }.items():
+        for text in texts:
+            assert read_hex(text) == number, (number, text)
+
+
+def check_memory():
+    speeds, job = [(0, 0), (1, 1)], (1, 0, 1)
+    for number, sheet in [
+        (0, SHEET_A),
+        (4, Sheet()),
+        (4, one_job(7, [(1, 0), (0, 0)], 0, job)),  # the first field decides
+        (5, one_job(2, [(0, 0), (9, 70_000)], 1, job)),
+        (6, one_job(2, [(0, 70_000), (0, 0)], 1, job)),  # open point 1
+        (6, one_job(2, [(0, 65_536), (1, 0)], 1, job)),
+        (5, one_job(2, [(0, 0)] * 200, 1, job)),  # open point 5
+        (7, one_job(2, speeds, 201, (0, 0, 0))),
+        (8, one_job(2, speeds, 1, (256, 0, 1))),
+        (8, one_job(2, speeds, 1, (1, 0, 3))),
+        # All places used, each with its greatest number.
+        (0, Sheet(1, tuple((speed, 65_535) for speed in range(9)), 1, ((255, 255, 1),) * 32)),
+    ]:
+        assert refuse_sheet(sheet) == number, (number, sheet)
+    assert plan_sheet(Sheet()) == (4, 0, 0, [], [])
+
+
+def check_sheet_a():
+    number, queue_count, least, values, plan = plan_sheet(SHEET_A)
+    assert (number, queue_count, least) == (0, 12, 0)
+    assert values[0:12] == [0, 4, 8, 20, 32, 4, 8, 20, 32, 16, 20, 32]
+    assert values[12:24] == [0, 0, 0, 2, 8, 2, 2, 2, 8, 8, 8, 8]
+    assert values[24:] == [0] * 12
+    assert plan[0:12] == [0, 0, 1, 1, 2, 1, 1, 1, 2, 2, 2, 2]
+    assert plan[12:] == [0, 0, 0, 1, 2, 1, 1, 1, 2, 2, 2, 2]
+
+
+def check_counts():
+    for bound, largest_speed, count in [(2, 2, 12), (5, 5, 62_832), (5, 6, 141_778),
+                                        (6, 2, 7_752)]:  # the last: open point 14
+        assert sum(1 for _ in bearable_queues(bound, largest_speed)) == count
+    assert refuse_sheet(one_job(5, [(0, 0), (5, 1)], 1, (1, 0, 1))) == 0
+    assert refuse_sheet(one_job(5, [(0, 0), (6, 1)], 1, (1, 0, 1))) == 10
+    # Dictionary order is the order of tuples.
+    queues = list(bearable_queues(3, 3))
+    assert queues == sorted(queues) and queues[0] == (0, 0, 0)
+    # Open point 14: with D 1 "nothing is left".
+    assert all(run_slot((work,), speed) == (0,) for speed in range(9) for work in range(speed + 1))
+
+
+def check_horizon():
+    for energy in 1, 0:  # open point 15: number 9 "still uses 1"
+        speeds = [(0, 0), (1, energy)]
+        assert refuse_sheet(one_job(1, speeds, 57, (2, 0, 1))) == 0
+        assert refuse_sheet(one_job(1, speeds, 58, (2, 0, 1))) == 9
+    # 16 * 2048 * 8^16 is 2^63, the least number that is refused.
+    assert refuse_sheet(one_job(1, [(0, 0), (1, 2_047)], 16, (8, 0, 1))) == 0
+    assert refuse_sheet(one_job(1, [(0, 0), (1, 2_048)], 16, (8, 0, 1))) == 9
+
+
+def check_number_12():
+    sheet = one_job(1, [(0, 0), (1, 1)], 1, (1, 2, 1))
+    assert plan_sheet(sheet) == (12, 2, 0, [NONE_VALUE] * 2 + [0] * 2, [255, 255])
+    # Open point 17: "buffers filled, N reported, least energy 0", though slot 1 has a
+    # value. The work of one arrival can be borne, that of two cannot.
+    number, queue_count, least, values, plan = plan_sheet(
+        one_job(2, [(0, 0), (1, 1)], 2, (1, 2, 2)))
+    assert (number, queue_count, least) == (12, 5, 0)
+    assert values[:5] == [NONE_VALUE] * 5 and plan[:5] == [NONE_SPEED] * 5
+    assert values[5] == 0 and plan[5] == 0
+
+
+def check_open_points():
+    # 6: admissible is not good.
+    sheet = one_job(2, [(0, 0), (2, 4)], 2, (1, 3, 2))
+    _, queue_count, _, values, plan = plan_sheet(sheet)
+    queue = list(bearable_queues(2, 2)).index((0, 1))
+    assert (plan[queue], values[queue]) == (2, 8)
+    assert (plan[queue_count + queue], values[queue_count + queue]) == (0, 0)
+    # 15: energies all zero.
+    sheet = Sheet(2, ((0, 0), (1, 0), (2, 0)), 2, ((1, 1, 1), (3, 0, 2)))
+    assert set(plan_sheet(sheet)[3]) == {0, NONE_VALUE}
+
+
+def check_figure():
+    """Document 000's first figure, as 01 and open point 18 tell it."""
+    queue = add_job((0,) * 6, 2, 4)
+    assert queue == (0, 0, 0, 2, 2, 2)
+    for speed, size, deadline in (1, 1, 5), (0, 2, 6), (2, 2, 4):
+        queue = add_job(run_slot(queue, speed), size, deadline)
+    assert run_slot(queue, 1) == (0, 0, 1, 3, 3, 3)
+
+
+def check_checksum():
+    assert checksum([]) == 0 and checksum([7]) == 7 and checksum([1, 2]) == 1_000_005
+    assert checksum([NONE_VALUE]) == NONE_VALUE % 4_294_967_291 == 24
+
+
+def is_bearable(sheet, queue):
+    """01's definition, by positions 1 to D."""
+    return all(queue[u - 1] <= u * sheet.largest_speed() for u in range(1, sheet.bound + 1))
+
+
+def step(sheet, queue, speed, size, deadline):
+    """One slot and an arrival, position by position."""
+    work = {u: queue[u - 1] for u in range(1, sheet.bound + 1)}
+    work[sheet.bound + 1] = work[sheet.bound]
+    moved = []
+    for u in range(1, sheet.bound + 1):
+        left = work[u + 1] - speed
+        moved.append((left if left > 0 else 0) + (size if u >= deadline else 0))
+    return tuple(moved)
+
+
+def all_ways(sheet, length):
+    """Every way over so many slots: a (speed, energy) for each list of the entries, by
+    their places, that have arrived so far."""
+    arrived = [entries for slot in range(length)
+               for entries in product(range(len(sheet.jobs)), repeat=slot)]
+    for chosen in product(sheet.speeds, repeat=len(arrived)):
+        yield dict(zip(arrived, chosen))
+
+
+def scaled_energy(sheet, queue, length, way):
+    """The scaled energy of a way, or None when it is not a good way."""
+    total = 0
+    for entries in product(range(len(sheet.jobs)), repeat=length):
+        now, weights, spent = queue, 1, 0
+        for slot, entry in enumerate(entries):
+            speed, energy = way[entries[:slot]]
+            weight, size, deadline = sheet.jobs[entry]
+            if speed < now[0]:
+                return None
+            now = step(sheet, now, speed, size, deadline)
+            if not is_bearable(sheet, now):
+                return None
+            weights, spent = weights * weight, spent + energy
+        total += weights * spent
+    return total
+
+
+def least_by_ways(sheet, queue, length):
+    """The value by the definition, and the first speeds of the least good ways."""
+    found = {}
+    for way in all_ways(sheet, length):
+        energy = scaled_energy(sheet, queue, length, way)
+        if energy is not None:
+            found.setdefault(energy, set()).add(way[()][0])
+    return min(found.items(), default=(NONE_VALUE, {NONE_SPEED}))
+
+
+def random_sheet(chance):
+    bound, largest_speed = chance.randint(1, 2), chance.randint(1, 2)
+    between = [1] if largest_speed == 2 and chance.random() < 0.6 else []
+    speeds = [(speed, chance.randint(0, 4)) for speed in (0, *between, largest_speed)]
+    jobs = [(chance.randint(1, 3), chance.randint(0, 3), chance.randint(1, bound))
+            for _ in range(chance.randint(1, 2))]
+    return Sheet(bound, tuple(speeds), chance.randint(1, 2), tuple(jobs))
+
+
+def check_ways():
+    chance = random.Random(1)
+    sheets = [random_sheet(chance) for _ in range(300)]
+    sheets.append(Sheet(2, SHEET_A.speeds, 3, SHEET_A.jobs))  # a longer one
+    nones = ties = 0
+    for sheet in sheets:
+        assert read_sheet(sheet_bytes(sheet)) == (0, sheet)
+        most = sheet.bound * sheet.largest_speed()
+        queues = [queue for queue in product(range(most + 1), repeat=sheet.bound)
+                  if list(queue) == sorted(queue) and is_bearable(sheet, queue)]
+        number, queue_count, least, values, plan = plan_sheet(sheet)
+        assert queue_count == len(queues) and values[-queue_count:] == [0] * queue_count
+        assert len(values) == queue_count + len(plan) == queue_count * (sheet.horizon + 1)
+        assert (number, least) == ((12, 0) if values[0] == NONE_VALUE else (0, values[0]))
+        for slot in range(sheet.horizon):
+            for place, queue in enumerate(queues, slot * queue_count):
+                value, first_speeds = least_by_ways(sheet, queue, sheet.horizon - slot)
+                assert values[place] == value, (sheet, slot, queue)
+                assert plan[place] == min(first_speeds), (sheet, slot, queue)
+                nones += value == NONE_VALUE
+                ties += len(first_speeds) > 1
+    assert nones > 100 and ties > 100  # the sheets tell the rules apart
+
+
+if __name__ == "__main__":
+    check_numbers()
+    check_reading()
+    check_memory()
+    check_sheet_a()
+    check_counts()
+    check_horizon()
+    check_number_12()
+    check_open_points()
+    check_figure()
+    check_checksum()
+    check_ways()
+    print("ok")
