@@ -6,17 +6,12 @@ use native.Mathlib.Nat.{zero-add}
 use borrow.Author.Tests.{ne-eqb, eqb-false}
 use lib.ListN.{length}
 use Rattle.model.proofs.RoundTrip.{write-fits, write-short}
-use Rattle.model.proofs.Tests.{then-left, then-stops}
+use Rattle.model.proofs.Tests.{then-stops}
 use Rattle.model.specs.Bytes.{sheetBytes, writeRefusal, write}
 use Rattle.model.specs.Counted.{Counted}
-use Rattle.model.specs.Refusal.{fieldsRefusal, refusalGiven, sheetRefusal}
+use Rattle.model.specs.Refusal.{sheetRefusal}
 use Rattle.codec.specs.Calls.{IsWritten}
 use Rattle.codec.specs.Laid.{Laid}
-
--- the fields of a sheet that is accepted are in range
-pub fields-right : (s : Counted) → sheetRefusal s ≡ 0 → fieldsRefusal s ≡ 0
-unfolding sheetRefusal refusalGiven
-fields-right s e = then-left (fieldsRefusal s) _ e
 
 -- a refusal touches nothing and has the length 0
 refused-with : (s : Counted) (buffer : List ℕ) (number : ℕ) → writeRefusal s (length buffer) ≡ number → (number ≡ 0 → ⊥) →

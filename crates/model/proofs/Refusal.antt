@@ -107,13 +107,18 @@ ranged s e =
       deadline-high = λ i h. in-range 1 (s .bound) (deadlineAt s i) (jobs i h .2) .1;
     }
 
+-- a sheet whose number is 0 has passed 4 to 8
+pub fields-right : (s : Counted) → sheetRefusal s ≡ 0 → fieldsRefusal s ≡ 0
+unfolding sheetRefusal refusalGiven
+fields-right s e = then-left (fieldsRefusal s) _ e
+
 -- a sheet whose number is 0 keeps every range and both limits
 pub accepted : (s : Counted) → sheetRefusal s ≡ 0 → Accepted s
 unfolding sheetRefusal refusalGiven limitsRefusal refusal9
 accepted s e =
     let value = passed (leb (s .horizon * G s * W s ^ s .horizon) valueLimit) 8 _ (then-right (fieldsRefusal s) _ e) in
     record {
-      ranged = ranged s (then-left (fieldsRefusal s) _ e);
+      ranged = ranged s (fields-right s e);
       fits = leb→le (s .horizon * G s * W s ^ s .horizon) valueLimit (value .0);
       queues-high = leb→le (N s) 65535 (check-zero (leb (N s) 65535) 9 (value .1));
     }

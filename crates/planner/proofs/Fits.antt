@@ -1,13 +1,13 @@
 -- That nothing wraps: every value, every sum over some of the entries, every price and the scale stay below the limit of a value. No bound
 -- stands in a loop's invariant: one induction over the recursion bounds its values (process/proofs/Eased.antt), and number 9 does the rest.
-use Prim.Native.Nat.{ℕ, zero, suc, _+_, _*_, _^_, _≤_, _<_, zero-le}
+use Prim.Native.Nat.{ℕ, zero, suc, _+_, _*_, _^_, _≤_, _<_}
 use mathlib.Core.Path.{_≡_, refl, sym, ap, _∙_, subst}
 use mathlib.Core.Bool.{Bool, true, false, cond}
 use mathlib.Core.Option.{Option, none, some}
-use native.Mathlib.Nat.{add-zero, mul-le-mul, mul-le-mul-left, mul-le-mul-right, mul-comm, mul-assoc, mul-one, one-mul, pow-suc, pow-le-pow-right, add-le-add, le-trans, le-refl, le-of-eq}
+use native.Mathlib.Nat.{add-zero, mul-le-mul, mul-le-mul-left, mul-le-mul-right, mul-comm, mul-assoc, pow-suc, pow-le-pow-right, add-le-add, le-trans, le-refl}
 use native.Mathlib.Omega.{arith}
 use borrow.Author.Tests.{eqb-true, eqb-false}
-use lib.Dec.{T, eqb}
+use lib.Dec.{eqb}
 use Rattle.process.specs.Recursion.{plus, times, sumOrNone, value}
 use Rattle.process.specs.Sums.{sum}
 use Rattle.process.specs.Ways.{Among}

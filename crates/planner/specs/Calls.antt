@@ -4,7 +4,7 @@ use Prim.Native.Nat.{ℕ}
 use mathlib.Core.Path.{_≡_}
 use mathlib.Core.List.{List}
 use Rattle.model.specs.Counted.{Counted}
-use Rattle.model.specs.Plan.{PlanAnswer, Leaves, valueIn, row}
+use Rattle.model.specs.Plan.{Leaves, valueIn, row}
 
 -- `plan` of the sheet s, lent values₀ and plan₀, leaves values and plan and answers these three numbers
 abbrev pub IsPlan : Counted → (values₀ plan₀ values plan : List ℕ) → ℕ → ℕ → ℕ → Type 0

@@ -4,7 +4,7 @@ use Prim.Native.Nat.{ℕ, suc, pred, _+_, _*_, _-_, _^_, _≤_, _<_}
 use mathlib.Core.Path.{_≡_}
 use mathlib.Core.List.{List, []}
 use mathlib.Core.Option.{Option, some}
-use lib.Dec.{T, leb}
+use lib.Dec.{leb}
 use lib.ListN.{length, getD}
 use Rattle.process.specs.Recursion.{plus, times, sumOrNone, only, Choice, nothing, chosen, better, worth, value, choice}
 use Rattle.model.specs.Counted.{Counted, weightAt, sizeAt, deadlineAt, W, M}

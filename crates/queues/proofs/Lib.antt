@@ -5,3 +5,4 @@ pub mod Slots
 pub mod Numbering
 pub mod Finding
 pub mod RoundTrip
+pub mod Fewer

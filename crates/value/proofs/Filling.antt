@@ -1,14 +1,14 @@
 -- Laws of filled buffers (specs/Fills.antt): nothing is filled, one thing more is, and what stands outside is what stood there. They serve
 -- every loop that fills a lent buffer.
-use Prim.Native.Nat.{ℕ, zero, suc, _+_, _*_, _^_, _≤_, _<_}
+use Prim.Native.Nat.{ℕ, zero, suc, _+_, _*_, _≤_, _<_}
 use mathlib.Core.Path.{_≡_, refl, sym, ap, _∙_, subst}
 use mathlib.Core.List.{List}
 use mathlib.Core.Logic.{_⊎_, inl, inr, ⊎-elim}
-use native.Mathlib.Nat.{mul-le-mul-right, mul-one, add-zero, add-suc, eq-or-lt-of-le, le-of-suc-le-suc, not-suc-le-zero, suc-mul}
+use native.Mathlib.Nat.{mul-le-mul-right, add-zero, eq-or-lt-of-le, le-of-suc-le-suc, not-suc-le-zero, suc-mul}
 use native.Mathlib.Omega.{arith}
 use lib.ListN.{length, getD, set, length-set}
 use lib.Seq.{getD-set-same, getD-set-other}
-use Rattle.value.specs.Width.{Width, numberFrom, placed, decode, readAt}
+use Rattle.value.specs.Width.{Width, numberFrom, decode, readAt}
 use Rattle.value.specs.Fills.{Local, numberAt, Fills}
 
 -- what stands in n places depends on those alone

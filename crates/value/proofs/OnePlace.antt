@@ -1,9 +1,8 @@
 -- The width of one place (specs/Narrow.antt): a value stands at its own place, and is loaded and stored there.
-use Prim.Native.Nat.{ℕ, suc, _+_, _*_, _^_, _≤_, _<_}
-use mathlib.Core.Path.{_≡_, refl, sym, ap, _∙_}
+use Prim.Native.Nat.{ℕ, _+_, _*_, _^_, _<_}
+use mathlib.Core.Path.{_≡_, ap, _∙_}
 use mathlib.Core.List.{List}
-use native.Mathlib.Nat.{mul-one, mul-zero, add-zero}
-use native.Mathlib.Omega.{arith}
+use native.Mathlib.Nat.{mul-one, add-zero}
 use lib.ListN.{length, getD, set}
 use Rattle.value.specs.Width.{numberFrom, placed, decode, readAt}
 use Rattle.value.specs.Narrow.{width}

@@ -1,6 +1,6 @@
 -- One value, a whole number or none, as it stands in lent memory: in so many places of 64 bits. What is said here and proved in proofs/ is
 -- over any such width; the code of this crate is at one.
-use Prim.Native.Nat.{ℕ, zero, suc, _+_, _*_, _-_, _^_, _<_}
+use Prim.Native.Nat.{ℕ, zero, suc, _+_, _*_, _^_, _<_}
 use mathlib.Core.Bool.{Bool, true, false, cond}
 use mathlib.Core.List.{List}
 use mathlib.Core.Option.{Option, none, some}

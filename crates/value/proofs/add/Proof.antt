@@ -1,6 +1,5 @@
 -- `add` meets its contract: none where either is none, else the sum, which fits since it stays below the limit.
-use mathlib.Core.Path.{_≡_, sym, _∙_}
-use mathlib.Core.Option.{some}
+use mathlib.Core.Path.{sym, _∙_}
 use native.Mathlib.Omega.{arith}
 use borrow.Author.Needs.{needs}
 use Rattle.value.specs.Narrow.{width, valueOf}

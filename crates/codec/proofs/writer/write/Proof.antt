@@ -3,7 +3,8 @@ use mathlib.Core.Path.{sym, _∙_}
 use native.Mathlib.Omega.{arith}
 use borrow.Author.Needs.{needs}
 use Rattle.model.specs.Counted.{counted}
-use Rattle.codec.proofs.Outcomes.{fields-right, write-refused, refused-short, write-done}
+use Rattle.model.proofs.Refusal.{fields-right}
+use Rattle.codec.proofs.Outcomes.{write-refused, refused-short, write-done}
 use Rattle.codec.proofs.writer.write.Statement.{statement}
 use Rattle.codec.proofs.writer.write.Tie as tie
 

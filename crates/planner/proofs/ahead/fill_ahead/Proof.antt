@@ -1,52 +1,90 @@
+-- `fill_ahead` meets its contract. The loop's invariant: what is ahead of the queues passed stands in the buffer, and nothing else changed.
+use Prim.Native.Nat.{_-_, _≤_}
+use mathlib.Core.Path.{sym, ap, _∙_, subst}
+use native.Mathlib.Nat.{zero-add}
+use native.Mathlib.Omega.{arith}
+use Rattle.model.proofs.Refusal.{accepted}
+use Rattle.model.specs.Counted.{counted}
+use Rattle.queues.specs.Slot.{Small}
+use Rattle.value.proofs.Filling.{read-local, fills-none, fills-more, fills-whole}
+use Rattle.value.specs.Fills.{Fills}
+use Rattle.value.specs.Narrow.{width}
+use Rattle.value.specs.Width.{readAt}
+use Rattle.planner.specs.Passes.{aheadOf, queueAfter}
+use Rattle.planner.proofs.Found.{sized-ranges, sized-bound, sized-after, sized-queue-after, kept-small}
 use Rattle.planner.proofs.ahead.fill_ahead.Statement.{statement}
 use Rattle.planner.proofs.ahead.fill_ahead.Tie as tie
-use Rattle.planner.proofs.ahead.fill_ahead.Reads as reads
-use Rattle.planner.proofs.ahead.fill_ahead.Lts as lts
-use Rattle.planner.proofs.ahead.queue_after.Reads as queue-after-reads
-use Rattle.planner.proofs.ahead.sum_ahead.Reads as sum-ahead-reads
-use Rattle.value.proofs.store.Reads as store-reads
 
 abbrev Inv-loop : tie.InvT-loop
-Inv-loop counts sheet sizes slot values ahead₀ number₀ ahead number = ?
+Inv-loop counts sheet sizes slot values ahead₀ number₀ ahead number =
+    (number ≤ sizes .after) ×
+    Fills (width .places) (readAt width) (λ i. aheadOf (counted sheet) (slot .left) (queueAfter (counted sheet) i)) 0 number ahead₀ ahead
 
 abbrev μ-loop : tie.MeasureT-loop
-μ-loop counts sheet sizes slot values ahead₀ number₀ ahead number = ?
+μ-loop counts sheet sizes slot values ahead₀ number₀ ahead number = sizes .after - number
 
--- src/ahead.rt:108:5
 loop-holds : tie.Need-loop-holds Inv-loop μ-loop
-loop-holds c = ?
+loop-holds c = (omega arith, fills-none (width .places) (readAt width) _ 0 _)
 
--- src/ahead.rt:109:13
 queue-after-requires : tie.Need-queue-after-requires Inv-loop μ-loop
-queue-after-requires c κs = ?
+queue-after-requires c κs =
+    let start = c .before .before .before .before .before in
+    let a = start .args in
+    let s = counted (a .sheet) in
+    let p = start .pre .0 .prepared in
+    let right = accepted s (p .accepted) .ranged in (
+      p .holds,
+      sized-ranges s (a .sizes) (p .sized) right,
+      sized-bound s (a .sizes) (p .sized) right,
+      omega (arith, c .if1 .taken, sized-after s (a .sizes) (p .sized)),
+    )
 
--- src/ahead.rt:110:13
 sum-ahead-requires : tie.Need-sum-ahead-requires Inv-loop μ-loop
-sum-ahead-requires c κs = ?
+sum-ahead-requires c κs =
+    let start = c .before .before .before .before .before .before in
+    let a = start .args in
+    let s = counted (a .sheet) in
+    let p = start .pre .0 .prepared in
+    let small =
+    kept-small (a .sizes .largest) (a .sizes .bound) (c .before .before .before .loop .number)
+    (sized-ranges s (a .sizes) (p .sized) (accepted s (p .accepted) .ranged))
+    (omega (arith, c .before .if1 .taken, sized-after s (a .sizes) (p .sized))) in
+    (start .pre .0, start .pre .1, subst Small (sym (c .queue-after .ensures)) small)
 
--- src/ahead.rt:111:9
 store-requires : tie.Need-store-requires Inv-loop μ-loop
-store-requires c κs = ?
+store-requires c κs =
+    let start = c .before .before .before .before .before .before .before .before in
+    let l = c .before .before .before .before .before .loop in
+    omega (arith, l .inv .1 .same-length, start .pre .2, c .before .before .before .if1 .taken)
 
--- src/ahead.rt:112:9
 add-number : tie.Need-add-number Inv-loop μ-loop
-add-number c = ?
+add-number c = omega arith
 
--- src/ahead.rt:108:5
 loop-less : tie.Need-loop-less Inv-loop μ-loop
-loop-less c = ?
+loop-less c = omega arith
 
--- src/ahead.rt:108:5
 loop-again : tie.Need-loop-again Inv-loop μ-loop
-loop-again c = ?
+loop-again c =
+    let start = c .before .before .before .before .before .before .before .before .before .before .before in
+    let a = start .args in
+    let s = counted (a .sheet) in
+    let l = c .before .before .before .before .before .before .before .before .loop in
+    let queue =
+    c .before .before .before .before .before .queue-after .ensures ∙
+    sized-queue-after s (a .sizes) (start .pre .0 .prepared .sized) (l .number) in
+    let same = c .before .before .before .before .sum-ahead .ensures ∙ ap (aheadOf s (a .slot .left)) queue in (
+      omega arith,
+      fills-more (width .places) (readAt width) (read-local width) (sym (zero-add (l .number))) same (l .inv .1)
+          (c .before .before .store .ensures),
+    )
 
--- src/ahead.rt:96:1
 same-length : tie.Need-same-length Inv-loop μ-loop
-same-length c = ?
+same-length c = c .before .before .loop .inv .1 .same-length
 
--- src/ahead.rt:96:1
 returns : tie.Need-returns Inv-loop μ-loop
-returns c = ?
+returns c =
+    let l = c .before .before .loop in
+    fills-whole (width .places) (readAt width) (l .inv .1) (omega arith)
 
 pub fill-ahead-spec : {M : Type 1} → statement M
 fill-ahead-spec =

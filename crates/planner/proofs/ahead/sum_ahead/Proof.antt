@@ -1,60 +1,108 @@
+-- `sum_ahead` meets its contract. The loop's invariant: the sum so far is what is ahead over the entries passed. That no sum passes the
+-- limit is not in it, since no sum over some first entries does.
+use Prim.Native.Nat.{ℕ, _+_, _-_, _*_, _≤_}
+use mathlib.Core.Path.{_≡_, sym, ap, _∙_, subst}
+use native.Mathlib.Omega.{arith}
+use lib.ListN.{length}
+use Rattle.model.proofs.Refusal.{accepted}
+use Rattle.model.specs.Counted.{counted}
+use Rattle.model.specs.Queue.{queueIn}
+use Rattle.model.specs.declared.Job.{Job}
+use Rattle.sheets.proofs.Places.{job-counts}
+use Rattle.value.specs.Narrow.{width, valueOf}
+use Rattle.value.specs.Width.{Below}
+use Rattle.planner.specs.Passes.{aheadTo}
+use Rattle.planner.proofs.Fits.{ahead-fits}
+use Rattle.planner.proofs.Found.{sized-ranges, sized-queues, ahead-none, ahead-turn}
 use Rattle.planner.proofs.ahead.sum_ahead.Statement.{statement}
 use Rattle.planner.proofs.ahead.sum_ahead.Tie as tie
-use Rattle.planner.proofs.ahead.sum_ahead.Reads as reads
-use Rattle.planner.proofs.ahead.sum_ahead.Lts as lts
-use Rattle.planner.proofs.ahead.value_with.Reads as value-with-reads
-use Rattle.value.proofs.add.Reads as add-reads
-use Rattle.value.proofs.of.Reads as of-reads
 
 abbrev Inv-loop : tie.InvT-loop
-Inv-loop counts sizes slot values queue sheet sum₀ place₀ sum place = ?
+Inv-loop counts sizes slot values queue sheet sum₀ place₀ sum place =
+    (place ≤ sheet .«job_count») × (valueOf sum ≡ aheadTo (counted sheet) (slot .left) (queueIn (sizes .bound) queue) place)
 
 abbrev μ-loop : tie.MeasureT-loop
-μ-loop counts sizes slot values queue sheet sum₀ place₀ sum place = ?
+μ-loop counts sizes slot values queue sheet sum₀ place₀ sum place = sheet .«job_count» - place
 
--- src/ahead.rt:73:9
 of-requires : tie.Need-of-requires Inv-loop μ-loop
-of-requires c κs = ?
+of-requires c κs = tt
 
--- src/ahead.rt:75:5
 loop-holds : tie.Need-loop-holds Inv-loop μ-loop
-loop-holds c = ?
+loop-holds c =
+    let a = c .before .before .args in
+    (omega arith, c .of .ensures ∙ ahead-none (counted (a .t2)) (a .slot .left) (queueIn (a .sizes .bound) (a .queue)))
 
--- src/ahead.rt:76:30
 cast-one : tie.Need-cast-one Inv-loop μ-loop
-cast-one c = ?
+cast-one c = omega arith
 
--- src/ahead.rt:76:19
 mul-one : tie.Need-mul-one Inv-loop μ-loop
-mul-one c = ?
+mul-one c =
+    let start = c .before .before .before .before in
+    omega (arith, accepted (counted (start .args .t2)) (start .pre .0 .prepared .accepted) .ranged .jobs-high)
 
--- src/ahead.rt:76:19
 element-copy-out-one : tie.Need-element-copy-out-one Inv-loop μ-loop
-element-copy-out-one c = ?
+element-copy-out-one c =
+    let start = c .before .before .before .before in
+    omega (arith, accepted (counted (start .args .t2)) (start .pre .0 .prepared .accepted) .ranged .jobs-high)
 
--- src/ahead.rt:77:13
 value-with-requires : tie.Need-value-with-requires Inv-loop μ-loop
-value-with-requires c κs = ?
+value-with-requires c κs =
+    let start = c .before .before .before .before .before in
+    let a = start .args in
+    let s = counted (a .t2) in
+    let p = start .pre .0 .prepared in
+    let right = accepted s (p .accepted) .ranged in
+    let place = c .before .before .loop .place in
+    let taken = c .before .loop-test .taken in (
+      p .holds,
+      sized-ranges s (a .sizes) (p .sized) right,
+      subst (λ (one : Job). one .size ≤ 255) (job-counts (a .t2) place taken) (right .size-high place taken),
+      start .pre .2,
+      subst (λ (n : ℕ). (a .slot .next + n) * width .places ≤ length (a .values .now)) (sym (sized-queues s (a .sizes) (p .sized)))
+          (start .pre .1 .room),
+    )
 
--- src/ahead.rt:78:9
 add-requires : tie.Need-add-requires Inv-loop μ-loop
-add-requires c κs = ?
+add-requires c κs =
+    let start = c .before .before .before .before .before .before in
+    let a = start .args in
+    let s = counted (a .t2) in
+    let ready = start .pre .0 in
+    let l = c .before .before .before .loop in
+    let six : length (a .queue) ≡ 6 = omega (arith, start .good .1 .1 .1 .1 .1 .0) in
+    subst (Below (width .limit))
+    (sym
+    (ahead-turn (a .t2) ready (start .pre .1) (a .queue) six (l .place) (c .before .before .loop-test .taken) (l .inv .1)
+    (c .value-with .ensures)))
+    (ahead-fits s (accepted s (ready .prepared .accepted)) (a .slot .left) (queueIn (a .sizes .bound) (a .queue)) (l .place + 1)
+    (ready .in-plan .left-low) (omega arith))
 
--- src/ahead.rt:79:9
 add-place : tie.Need-add-place Inv-loop μ-loop
-add-place c = ?
+add-place c =
+    let start = c .before .before .before .before .before .before .before in
+    omega (arith, accepted (counted (start .args .t2)) (start .pre .0 .prepared .accepted) .ranged .jobs-high)
 
--- src/ahead.rt:75:5
 loop-less : tie.Need-loop-less Inv-loop μ-loop
-loop-less c = ?
+loop-less c = omega arith
 
--- src/ahead.rt:75:5
 loop-again : tie.Need-loop-again Inv-loop μ-loop
-loop-again c = ?
+loop-again c =
+    let start = c .before .before .before .before .before .before .before in
+    let a = start .args in
+    let l = c .before .before .before .before .loop in
+    let six : length (a .queue) ≡ 6 = omega (arith, start .good .1 .1 .1 .1 .1 .0) in (
+      omega arith,
+      c .add .ensures ∙
+          ahead-turn (a .t2) (start .pre .0) (start .pre .1) (a .queue) six (l .place) (c .before .before .before .loop-test .taken) (l .inv .1)
+          (c .before .value-with .ensures),
+    )
 
--- src/ahead.rt:62:1
 returns : tie.Need-returns Inv-loop μ-loop
-returns c = ?
+returns c =
+    let a = c .before .before .before .before .args in
+    let l = c .before .loop in
+    let all : l .place ≡ a .t2 .«job_count» = omega arith in
+    l .inv .1 ∙ ap (aheadTo (counted (a .t2)) (a .slot .left) (queueIn (a .sizes .bound) (a .queue))) all
 
 pub sum-ahead-spec : {M : Type 1} → statement M
 sum-ahead-spec =

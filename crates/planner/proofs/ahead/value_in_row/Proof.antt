@@ -1,40 +1,59 @@
+-- `value_in_row` meets its contract: none where the queue is not bearable, else what stands at its number, which is a place of the row.
+use Prim.Native.Nat.{ℕ, _+_}
+use mathlib.Core.Path.{sym, ap, _∙_}
+use native.Mathlib.Omega.{arith}
 use borrow.Author.Needs.{needs}
+use Rattle.model.specs.Queue.{queueIn, queueCount}
+use Rattle.queues.proofs.RoundTrip.{number-in-below}
+use Rattle.sheets.proofs.Answers.{passed-by, failed-by}
+use Rattle.value.specs.Narrow.{width}
+use Rattle.value.specs.Width.{readAt}
+use Rattle.planner.proofs.Found.{none-in-row, read-in-row, numbered-by, room-at}
 use Rattle.planner.proofs.ahead.value_in_row.Statement.{statement}
 use Rattle.planner.proofs.ahead.value_in_row.Tie as tie
-use Rattle.planner.proofs.ahead.value_in_row.Reads as reads
-use Rattle.planner.proofs.ahead.value_in_row.Lts as lts
-use Rattle.queues.proofs.number.Reads as number-reads
-use Rattle.queues.proofs.finishable.Reads as finishable-reads
-use Rattle.value.proofs.load.Reads as load-reads
-use Rattle.value.proofs.none.Reads as none-reads
 
--- src/ahead.rt:39:9
 finishable-requires : tie.Need-finishable-requires
 finishable-requires c κs = search needs
 
--- src/ahead.rt:40:9
 none-requires : tie.Need-none-requires
 none-requires c κs = search needs
 
--- src/ahead.rt:40:9
 returns : tie.Need-returns
-returns c = ?
+returns c =
+    let a = c .before .before .before .before .args in
+    c .none .ensures ∙
+    sym
+    (none-in-row (a .largest) (a .buffer .now) (a .from) (queueIn (a .bound) (a .queue))
+    (failed-by (c .before .before .finishable .ensures) (c .before .if1 .taken)))
 
--- src/ahead.rt:42:32
 number-requires : tie.Need-number-requires
-number-requires c κs = ?
+number-requires c κs =
+    let start = c .before .before .before in
+    (start .pre .0, numbered-by (start .pre .1) (c .before .finishable .ensures) (c .if1 .left))
 
--- src/ahead.rt:42:25
 add-load : tie.Need-add-load
-add-load c = ?
+add-load c =
+    let start = c .before .before .before .before in
+    let a = start .args in
+    let n = numbered-by (start .pre .1) (c .before .before .finishable .ensures) (c .before .if1 .left) in
+    omega (arith, number-in-below (a .largest) (a .bound) (a .queue) (omega arith) n, c .number .ensures, start .pre .2)
 
--- src/ahead.rt:42:5
 load-requires : tie.Need-load-requires
-load-requires c κs = ?
+load-requires c κs =
+    let start = c .before .before .before .before in
+    let a = start .args in
+    let n = numbered-by (start .pre .1) (c .before .before .finishable .ensures) (c .before .if1 .left) in
+    room-at (a .from) (c .number .result) (queueCount (a .largest) (a .bound)) (width .places) (start .pre .2)
+    (omega (arith, number-in-below (a .largest) (a .bound) (a .queue) (omega arith) n, c .number .ensures))
 
--- src/ahead.rt:28:1
 returns-2 : tie.Need-returns-2
-returns-2 c = ?
+returns-2 c =
+    let a = c .before .before .before .before .before .args in
+    c .load .ensures ∙
+    (ap (λ (i : ℕ). readAt width (a .buffer .now) (a .from + i)) (c .before .number .ensures) ∙
+    sym
+    (read-in-row (a .largest) (a .buffer .now) (a .from) (queueIn (a .bound) (a .queue))
+    (passed-by (c .before .before .before .finishable .ensures) (c .before .before .if1 .left))))
 
 pub value-in-row-spec : {M : Type 1} → statement M
 value-in-row-spec =

@@ -1,22 +1,26 @@
+-- `value_with` meets its contract: what stands in the six places is the queue with the arrival.
+use mathlib.Core.Path.{ap, _∙_}
+use native.Mathlib.Omega.{arith}
 use borrow.Author.Needs.{needs}
+use Rattle.planner.specs.Passes.{valueInRow}
+use Rattle.planner.proofs.Found.{arrived-in}
 use Rattle.planner.proofs.ahead.value_with.Statement.{statement}
 use Rattle.planner.proofs.ahead.value_with.Tie as tie
-use Rattle.planner.proofs.ahead.value_with.Reads as reads
-use Rattle.planner.proofs.ahead.value_with.Lts as lts
-use Rattle.planner.proofs.ahead.value_in_row.Reads as value-in-row-reads
-use Rattle.queues.proofs.arrive.Reads as arrive-reads
 
--- src/ahead.rt:57:9
 arrive-requires : tie.Need-arrive-requires
 arrive-requires c κs = search needs
 
--- src/ahead.rt:58:5
 value-in-row-requires : tie.Need-value-in-row-requires
 value-in-row-requires c κs = search needs
 
--- src/ahead.rt:46:1
 returns : tie.Need-returns
-returns c = ?
+returns c =
+    let start = c .before .before .before in
+    let a = start .args in
+    c .value-in-row .ensures ∙
+    ap (valueInRow (a .sizes .largest) (a .values .now) (a .next))
+    (arrived-in (a .sizes .bound) (a .queue) (a .one .size) (a .one .deadline) (start .pre .1 .bound-high) (omega arith)
+    (c .before .arrive .ensures))
 
 pub value-with-spec : {M : Type 1} → statement M
 value-with-spec = tie.close (tie.spec arrive-requires value-in-row-requires returns)

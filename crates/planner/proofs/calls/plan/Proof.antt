@@ -1,68 +1,94 @@
+-- `plan` meets its contract: the call is refused and nothing is touched, or both tables are filled and the first value is the answer's.
+use mathlib.Core.Path.{sym, _∙_}
+use native.Mathlib.Omega.{arith}
 use borrow.Author.Needs.{needs}
+use Rattle.model.proofs.Refusal.{accepted}
+use Rattle.model.specs.Counted.{counted}
+use Rattle.planner.proofs.Judged.{plan-accepted, refused-plan, filled-plan, place-small, place-is, first-within}
+use Rattle.planner.proofs.Right.{planned-filled}
 use Rattle.planner.proofs.calls.plan.Statement.{statement}
 use Rattle.planner.proofs.calls.plan.Tie as tie
-use Rattle.planner.proofs.calls.plan.Reads as reads
-use Rattle.planner.proofs.calls.plan.Lts as lts
-use Rattle.planner.proofs.calls.plan_refusal.Reads as plan-refusal-reads
-use Rattle.planner.proofs.calls.planned.Reads as planned-reads
-use Rattle.planner.proofs.calls.refused.Reads as refused-reads
-use Rattle.planner.proofs.rows.fill.Reads as fill-reads
-use Rattle.planner.proofs.sizes.place.Reads as place-reads
-use Rattle.planner.proofs.sizes.sizes_of.Reads as sizes-of-reads
-use Rattle.queues.proofs.table.Reads as table-reads
-use Rattle.value.proofs.load.Reads as load-reads
 
--- src/calls.rt:89:18
 table-requires : tie.Need-table-requires
 table-requires c κs = search needs
 
--- src/calls.rt:90:9
 plan-refusal-requires : tie.Need-plan-refusal-requires
 plan-refusal-requires c κs = search needs
 
--- src/calls.rt:92:9
 refused-requires : tie.Need-refused-requires
 refused-requires c κs = search needs
 
--- src/calls.rt:92:9
 returns : tie.Need-returns
-returns c = ?
+returns c =
+    let a = c .before .before .before .before .before .before .before .args in
+    let answer = c .refused .ensures in
+    refused-plan (counted (a .sheet)) (a .values .now) (a .plan .now) (c .before .before .plan-refusal .ensures) (c .before .if1 .taken)
+    (answer .0) (answer .1) (answer .2)
 
--- src/calls.rt:94:9
 sizes-of-requires : tie.Need-sizes-of-requires
-sizes-of-requires c κs = ?
+sizes-of-requires c κs =
+    let told = c .before in
+    let passed = sym (told .before .plan-refusal .ensures) ∙ told .if1 .left in
+    (told .before .before .before .table .ensures, plan-accepted (counted (told .before .before .before .before .before .before .args .sheet)) _ _ passed .0)
 
--- src/calls.rt:95:5
 fill-requires : tie.Need-fill-requires
-fill-requires c κs = ?
+fill-requires c κs =
+    let sizes = c .before .before .before in
+    let told = sizes .before .before in
+    let s = counted (told .before .before .before .before .before .before .args .sheet) in
+    let passed = sym (told .before .plan-refusal .ensures) ∙ told .if1 .left in
+    let right = plan-accepted s _ _ passed in (
+      record { holds = told .before .before .before .table .ensures; accepted = right .0; sized = sizes .sizes-of .ensures },
+      right .2,
+      omega (arith, right .1),
+    )
 
--- src/calls.rt:97:9
 cast-planned : tie.Need-cast-planned
-cast-planned c = ?
+cast-planned c =
+    let sizes = c .before .before .before .before .before .before .before .before .before in
+    let told = sizes .before .before in
+    let s = counted (told .before .before .before .before .before .before .args .sheet) in
+    let passed = sym (told .before .plan-refusal .ensures) ∙ told .if1 .left in
+    omega (arith, place-small s (plan-accepted s _ _ passed .0) (sizes .sizes-of .ensures) 0 0 (omega arith) (omega arith) .0)
 
--- src/calls.rt:98:29
 place-requires : tie.Need-place-requires
-place-requires c κs = ?
+place-requires c κs =
+    let sizes = c .before .before .before .before .before .before .before .before .before .before in
+    let told = sizes .before .before in
+    let s = counted (told .before .before .before .before .before .before .args .sheet) in
+    let passed = sym (told .before .plan-refusal .ensures) ∙ told .if1 .left in
+    place-small s (plan-accepted s _ _ passed .0) (sizes .sizes-of .ensures) 0 0 (omega arith) (omega arith)
 
--- src/calls.rt:98:9
 load-requires : tie.Need-load-requires
-load-requires c κs = ?
+load-requires c κs =
+    let filled = c .before .before .before .before .before .before .before in
+    let sizes = filled .before .before .before .before in
+    let told = sizes .before .before in
+    let s = counted (told .before .before .before .before .before .before .args .sheet) in
+    let passed = sym (told .before .plan-refusal .ensures) ∙ told .if1 .left in
+    first-within s (sizes .sizes-of .ensures) _ _ _ passed (filled .fill .ensures .values-length) (c .place .ensures)
 
--- src/calls.rt:96:5
 planned-requires : tie.Need-planned-requires
 planned-requires c κs = search needs
 
--- src/calls.rt:86:1
 same-length : tie.Need-same-length
 same-length c = search needs
 
--- src/calls.rt:86:1
 same-length-2 : tie.Need-same-length-2
 same-length-2 c = search needs
 
--- src/calls.rt:86:1
 returns-2 : tie.Need-returns-2
-returns-2 c = ?
+returns-2 c =
+    let filled = c .before .before .before .before .before .before .before .before .before in
+    let sizes = filled .before .before .before .before in
+    let told = sizes .before .before in
+    let s = counted (told .before .before .before .before .before .before .args .sheet) in
+    let passed = sym (told .before .plan-refusal .ensures) ∙ told .if1 .left in
+    let first = place-is s (sizes .sizes-of .ensures) 0 0 (c .before .before .place .ensures) in
+    let answer = c .planned .ensures in
+    filled-plan s passed
+    (planned-filled s (accepted s (plan-accepted s _ _ passed .0)) (filled .fill .ensures) _ first (c .before .load .ensures)
+    (answer .1 ∙ sizes .sizes-of .ensures .queues-is) (answer .0) (answer .2))
 
 pub plan-spec : {M : Type 1} → statement M
 plan-spec =

@@ -1,35 +1,47 @@
+-- `plan_refusal` meets its contract: the row call's refusal, or the values are too short for T+1 rows, or neither.
+use mathlib.Core.Path.{sym, _∙_}
+use native.Mathlib.Omega.{arith}
 use borrow.Author.Needs.{needs}
+use Rattle.model.specs.Counted.{counted}
+use Rattle.planner.proofs.Judged.{row-accepted, plan-refused, plan-short, plan-fits, place-small, place-is, last-row}
 use Rattle.planner.proofs.calls.plan_refusal.Statement.{statement}
 use Rattle.planner.proofs.calls.plan_refusal.Tie as tie
-use Rattle.planner.proofs.calls.plan_refusal.Reads as reads
-use Rattle.planner.proofs.calls.plan_refusal.Lts as lts
-use Rattle.planner.proofs.calls.row_refusal.Reads as row-refusal-reads
-use Rattle.planner.proofs.sizes.place.Reads as place-reads
-use Rattle.planner.proofs.sizes.sizes_of.Reads as sizes-of-reads
 
--- src/calls.rt:70:9
 row-refusal-requires : tie.Need-row-refusal-requires
 row-refusal-requires c κs = search needs
 
--- src/calls.rt:72:9
 returns : tie.Need-returns
-returns c = ?
+returns c =
+    let a = c .before .before .args in
+    plan-refused (counted (a .sheet)) (a .values-room) (a .plan-room) (c .before .row-refusal .ensures) (c .if1 .taken)
 
--- src/calls.rt:74:9
 sizes-of-requires : tie.Need-sizes-of-requires
-sizes-of-requires c κs = ?
+sizes-of-requires c κs =
+    let a = c .before .before .args in
+    (c .before .before .pre, row-accepted (counted (a .sheet)) (a .plan-room) (sym (c .before .row-refusal .ensures) ∙ c .if1 .left) .0)
 
--- src/calls.rt:75:22
 place-requires : tie.Need-place-requires
-place-requires c κs = ?
+place-requires c κs =
+    let a = c .before .before .before .args in
+    let s = counted (a .sheet) in
+    let right = row-accepted s (a .plan-room) (sym (c .before .before .row-refusal .ensures) ∙ c .before .if1 .left) .0 in
+    place-small s right (c .sizes-of .ensures) (s .horizon) (c .sizes-of .result .queues) (omega arith) (omega arith)
 
--- src/calls.rt:76:9
 returns-2 : tie.Need-returns-2
-returns-2 c = ?
+returns-2 c =
+    let a = c .before .before .before .before .before .args in
+    let s = counted (a .sheet) in
+    let place = place-is s (c .before .before .sizes-of .ensures) (s .horizon) (c .before .before .sizes-of .result .queues) (c .before .place .ensures) in
+    plan-short s (a .values-room) (a .plan-room) (sym (c .before .before .before .before .row-refusal .ensures) ∙ c .before .before .before .if1 .left)
+    (omega (arith, c .if2 .taken, place, c .before .before .sizes-of .ensures .queues-is, last-row s))
 
--- src/calls.rt:66:1
 returns-3 : tie.Need-returns-3
-returns-3 c = ?
+returns-3 c =
+    let a = c .before .before .before .before .before .args in
+    let s = counted (a .sheet) in
+    let place = place-is s (c .before .before .sizes-of .ensures) (s .horizon) (c .before .before .sizes-of .result .queues) (c .before .place .ensures) in
+    plan-fits s (a .values-room) (a .plan-room) (sym (c .before .before .before .before .row-refusal .ensures) ∙ c .before .before .before .if1 .left)
+    (omega (arith, c .if2 .left, place, c .before .before .sizes-of .ensures .queues-is, last-row s))
 
 pub plan-refusal-spec : {M : Type 1} → statement M
 plan-refusal-spec =

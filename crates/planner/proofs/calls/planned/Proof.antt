@@ -1,21 +1,27 @@
+-- `planned` meets its contract: whether the least energy is none decides the number and what is answered for it.
+use mathlib.Core.Path.{_≡_, refl, sym, ap, _∙_}
+use mathlib.Core.Option.{none, some, Option·getD}
 use borrow.Author.Needs.{needs}
+use Rattle.model.specs.Plan.{number12}
+use Rattle.value.proofs.Decoding.{decode-none, decode-some}
+use Rattle.value.specs.Narrow.{width, valueOf}
 use Rattle.planner.proofs.calls.planned.Statement.{statement}
 use Rattle.planner.proofs.calls.planned.Tie as tie
-use Rattle.planner.proofs.calls.planned.Reads as reads
-use Rattle.planner.proofs.calls.planned.Lts as lts
-use Rattle.value.proofs.is_none.Reads as is-none-reads
 
--- src/calls.rt:39:8
 is-none-requires : tie.Need-is-none-requires
 is-none-requires c κs = search needs
 
--- src/calls.rt:40:9
 returns : tie.Need-returns
-returns c = ?
+returns c =
+    let least = c .before .before .args .least in
+    let e : valueOf least ≡ none = decode-none width (least .number) (sym (c .before .is-none .ensures) ∙ c .if1 .taken) in
+    (sym (ap number12 e), refl, sym (ap (λ r. Option·getD r 0) e))
 
--- src/calls.rt:36:1
 returns-2 : tie.Need-returns-2
-returns-2 c = ?
+returns-2 c =
+    let least = c .before .before .args .least in
+    let e : valueOf least ≡ some (least .number) = decode-some width (least .number) (sym (c .before .is-none .ensures) ∙ c .if1 .left) in
+    (sym (ap number12 e), refl, sym (ap (λ r. Option·getD r 0) e))
 
 pub planned-spec : {M : Type 1} → statement M
 planned-spec = tie.close (tie.spec is-none-requires returns returns-2)

@@ -1,64 +1,81 @@
+-- `row` meets its contract: the call is refused, or the slot is not one of the sheet's, or the part is the slot's row.
+use mathlib.Core.Path.{sym, _∙_}
+use native.Mathlib.Omega.{arith}
 use borrow.Author.Needs.{needs}
+use Rattle.model.specs.Counted.{counted}
+use Rattle.planner.proofs.Judged.{row-accepted, place-small, place-is, row-within, row-none, row-past, row-part}
 use Rattle.planner.proofs.calls.row.Statement.{statement}
 use Rattle.planner.proofs.calls.row.Tie as tie
-use Rattle.planner.proofs.calls.row.Reads as reads
-use Rattle.planner.proofs.calls.row.Lts as lts
-use Rattle.planner.proofs.calls.row_refusal.Reads as row-refusal-reads
-use Rattle.planner.proofs.sizes.place.Reads as place-reads
-use Rattle.planner.proofs.sizes.sizes_of.Reads as sizes-of-reads
-use Rattle.queues.proofs.table.Reads as table-reads
 
--- src/calls.rt:103:18
 table-requires : tie.Need-table-requires
 table-requires c κs = search needs
 
--- src/calls.rt:104:8
 row-refusal-requires : tie.Need-row-refusal-requires
 row-refusal-requires c κs = search needs
 
--- src/calls.rt:105:9
 slice-aggregate-result : tie.Need-slice-aggregate-result
 slice-aggregate-result c = search needs
 
--- src/calls.rt:105:9
 returns : tie.Need-returns
-returns c = ?
+returns c =
+    let a = c .before .before .before .before .before .before .args in
+    row-none (counted (a .sheet)) (a .plan .now) (a .slot) (c .before .before .row-refusal .ensures) (c .before .if1 .taken)
 
--- src/calls.rt:108:9
 slice-aggregate-result-2 : tie.Need-slice-aggregate-result-2
 slice-aggregate-result-2 c = search needs
 
--- src/calls.rt:108:9
 returns-2 : tie.Need-returns-2
-returns-2 c = ?
+returns-2 c =
+    let a = c .before .before .before .before .before .before .before .before .args in
+    row-past (counted (a .sheet)) (a .plan .now) (a .slot) (c .before .if2 .taken)
 
--- src/calls.rt:110:9
 sizes-of-requires : tie.Need-sizes-of-requires
-sizes-of-requires c κs = ?
+sizes-of-requires c κs =
+    let told = c .before in
+    let a = told .before .before .before .before .before .before .before .args in
+    let passed = sym (told .before .before .before .row-refusal .ensures) ∙ told .before .before .if1 .left in
+    (told .before .before .before .before .before .table .ensures, row-accepted (counted (a .sheet)) _ passed .0)
 
--- src/calls.rt:111:9
 place-requires : tie.Need-place-requires
-place-requires c κs = ?
+place-requires c κs =
+    let told = c .before .before in
+    let a = told .before .before .before .before .before .before .before .args in
+    let passed = sym (told .before .before .before .row-refusal .ensures) ∙ told .before .before .if1 .left in
+    let s = counted (a .sheet) in
+    place-small s (row-accepted s _ passed .0) (c .sizes-of .ensures) (a .slot) 0 (omega (arith, told .if2 .left)) (omega arith)
 
--- src/calls.rt:112:15
 add-end : tie.Need-add-end
-add-end c = ?
+add-end c =
+    let told = c .before .before .before .before in
+    let a = told .before .before .before .before .before .before .before .args in
+    let passed = sym (told .before .before .before .row-refusal .ensures) ∙ told .before .before .if1 .left in
+    omega (
+      arith,
+      row-within (counted (a .sheet)) (c .before .before .sizes-of .ensures) _ (a .slot) passed (told .if2 .left) (c .before .place .ensures),
+    )
 
--- src/calls.rt:113:5
 sub-result : tie.Need-sub-result
 sub-result c = search needs
 
--- src/calls.rt:113:5
 part-result-start : tie.Need-part-result-start
 part-result-start c = search needs
 
--- src/calls.rt:113:5
 part-result-end : tie.Need-part-result-end
-part-result-end c = ?
+part-result-end c =
+    let told = c .before .before .before .before in
+    let a = told .before .before .before .before .before .before .before .args in
+    let passed = sym (told .before .before .before .row-refusal .ensures) ∙ told .before .before .if1 .left in
+    row-within (counted (a .sheet)) (c .before .before .sizes-of .ensures) _ (a .slot) passed (told .if2 .left) (c .before .place .ensures)
 
--- src/calls.rt:100:1
 returns-3 : tie.Need-returns-3
-returns-3 c = ?
+returns-3 c =
+    let sizes = c .before .before .before in
+    let told = sizes .before .before in
+    let a = told .before .before .before .before .before .before .before .args in
+    let passed = sym (told .before .before .before .row-refusal .ensures) ∙ told .before .before .if1 .left in
+    let s = counted (a .sheet) in
+    row-part s (a .plan .now) (a .slot) passed (told .if2 .left)
+    (place-is s (sizes .sizes-of .ensures) (a .slot) 0 (c .before .before .place .ensures)) (sizes .sizes-of .ensures .queues-is)
 
 pub row-spec : {M : Type 1} → statement M
 row-spec =

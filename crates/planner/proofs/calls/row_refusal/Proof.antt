@@ -1,35 +1,42 @@
+-- `row_refusal` meets its contract: the sheet is refused, or the plan is too short for T rows, or neither.
+use mathlib.Core.Path.{sym, _∙_}
+use native.Mathlib.Omega.{arith}
 use borrow.Author.Needs.{needs}
+use Rattle.model.specs.Counted.{counted}
+use Rattle.planner.proofs.Judged.{row-refused, row-short, row-fits, place-small, place-is}
 use Rattle.planner.proofs.calls.row_refusal.Statement.{statement}
 use Rattle.planner.proofs.calls.row_refusal.Tie as tie
-use Rattle.planner.proofs.calls.row_refusal.Reads as reads
-use Rattle.planner.proofs.calls.row_refusal.Lts as lts
-use Rattle.planner.proofs.sizes.place.Reads as place-reads
-use Rattle.planner.proofs.sizes.sizes_of.Reads as sizes-of-reads
-use Rattle.sheets.proofs.sheet_refusal.Reads as sheet-refusal-reads
 
--- src/calls.rt:54:9
 sheet-refusal-requires : tie.Need-sheet-refusal-requires
 sheet-refusal-requires c κs = search needs
 
--- src/calls.rt:56:9
 returns : tie.Need-returns
-returns c = ?
+returns c =
+    let a = c .before .before .args in
+    row-refused (counted (a .sheet)) (a .room) (c .before .sheet-refusal .ensures) (c .if1 .taken)
 
--- src/calls.rt:58:9
 sizes-of-requires : tie.Need-sizes-of-requires
 sizes-of-requires c κs = search needs
 
--- src/calls.rt:59:15
 place-requires : tie.Need-place-requires
-place-requires c κs = ?
+place-requires c κs =
+    let s = counted (c .before .before .before .args .sheet) in
+    place-small s (sym (c .before .before .sheet-refusal .ensures) ∙ c .before .if1 .left) (c .sizes-of .ensures) (s .horizon) 0
+    (omega arith) (omega arith)
 
--- src/calls.rt:60:9
 returns-2 : tie.Need-returns-2
-returns-2 c = ?
+returns-2 c =
+    let a = c .before .before .before .before .before .args in
+    let s = counted (a .sheet) in
+    row-short s (a .room) (sym (c .before .before .before .before .sheet-refusal .ensures) ∙ c .before .before .before .if1 .left)
+    (omega (arith, c .if2 .taken, place-is s (c .before .before .sizes-of .ensures) (s .horizon) 0 (c .before .place .ensures)))
 
--- src/calls.rt:50:1
 returns-3 : tie.Need-returns-3
-returns-3 c = ?
+returns-3 c =
+    let a = c .before .before .before .before .before .args in
+    let s = counted (a .sheet) in
+    row-fits s (a .room) (sym (c .before .before .before .before .sheet-refusal .ensures) ∙ c .before .before .before .if1 .left)
+    (omega (arith, c .if2 .left, place-is s (c .before .before .sizes-of .ensures) (s .horizon) 0 (c .before .place .ensures)))
 
 pub row-refusal-spec : {M : Type 1} → statement M
 row-refusal-spec =

@@ -1,21 +1,25 @@
+-- `better` meets its contract: `less` tells whether the speed is taken.
 use borrow.Author.Needs.{needs}
+use mathlib.Core.Path.{sym, _∙_}
+use Rattle.value.specs.Narrow.{valueOf}
+use Rattle.planner.proofs.Prices.{better-taken, better-left}
 use Rattle.planner.proofs.choose.better.Statement.{statement}
 use Rattle.planner.proofs.choose.better.Tie as tie
-use Rattle.planner.proofs.choose.better.Reads as reads
-use Rattle.planner.proofs.choose.better.Lts as lts
-use Rattle.value.proofs.less.Reads as less-reads
 
--- src/choose.rt:32:8
 less-requires : tie.Need-less-requires
 less-requires c κs = search needs
 
--- src/choose.rt:33:9
 returns : tie.Need-returns
-returns c = ?
+returns c =
+    let a = c .before .before .args in
+    better-taken (a .best .speed) (valueOf (a .best .value)) (a .speed) (valueOf (a .price))
+    (sym (c .before .less .ensures) ∙ c .if1 .taken)
 
--- src/choose.rt:29:1
 returns-2 : tie.Need-returns-2
-returns-2 c = ?
+returns-2 c =
+    let a = c .before .before .args in
+    better-left (a .best .speed) (valueOf (a .best .value)) (a .speed) (valueOf (a .price))
+    (sym (c .before .less .ensures) ∙ c .if1 .left)
 
 pub better-spec : {M : Type 1} → statement M
 better-spec = tie.close (tie.spec less-requires returns returns-2)

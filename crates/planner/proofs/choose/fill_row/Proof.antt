@@ -1,72 +1,98 @@
+-- `fill_row` meets its contract. The loop's invariant: both rows are filled for the queues passed.
+use Prim.Native.Nat.{_≤_, _-_}
+use native.Mathlib.Omega.{arith}
+use Rattle.model.specs.Counted.{counted}
+use Rattle.planner.proofs.Prices.{FilledTo, filled-none, filled-more, filled-whole}
+use Rattle.planner.proofs.Prices.{ready-ranges, number-low, queue-bearable, choose-asked, choose-told, speed-fits}
 use Rattle.planner.proofs.choose.fill_row.Statement.{statement}
 use Rattle.planner.proofs.choose.fill_row.Tie as tie
-use Rattle.planner.proofs.choose.fill_row.Reads as reads
-use Rattle.planner.proofs.choose.fill_row.Lts as lts
-use Rattle.planner.proofs.choose.choose.Reads as choose-reads
-use Rattle.queues.proofs.queue_at.Reads as queue-at-reads
-use Rattle.value.proofs.store.Reads as store-reads
 
 abbrev Inv-loop : tie.InvT-loop
-Inv-loop counts sheet sizes slot ahead values₀ plan₀ number₀ values plan number = ?
+Inv-loop counts sheet sizes slot ahead values₀ plan₀ number₀ values plan number =
+    (number ≤ sizes .queues) × FilledTo (counted sheet) slot number values₀ plan₀ values plan
 
 abbrev μ-loop : tie.MeasureT-loop
-μ-loop counts sheet sizes slot ahead values₀ plan₀ number₀ values plan number = ?
+μ-loop counts sheet sizes slot ahead values₀ plan₀ number₀ values plan number = sizes .queues - number
 
--- src/choose.rt:101:5
 loop-holds : tie.Need-loop-holds Inv-loop μ-loop
-loop-holds c = ?
+loop-holds c =
+    let a = c .before .before .before .args in
+    (omega arith, filled-none (counted (a .sheet)) (a .slot) (a .values .now) (a .plan .now))
 
--- src/choose.rt:102:13
 queue-at-requires : tie.Need-queue-at-requires Inv-loop μ-loop
-queue-at-requires c κs = ?
+queue-at-requires c κs =
+    let ready = c .before .before .before .before .before .before .pre .0 in
+    (ready .prepared .holds, ready-ranges ready, number-low ready (c .before .before .loop .number) (c .if1 .taken))
 
--- src/choose.rt:103:13
 choose-requires : tie.Need-choose-requires Inv-loop μ-loop
-choose-requires c κs = ?
+choose-requires c κs =
+    let start = c .before .before .before .before .before .before .before in
+    let number = c .before .before .before .loop .number in (
+      start .pre .0,
+      start .pre .1,
+      choose-asked (start .pre .0) number (c .before .if1 .taken) (c .queue-at .ensures),
+    )
 
--- src/choose.rt:104:30
 add-store : tie.Need-add-store Inv-loop μ-loop
-add-store c = ?
+add-store c =
+    let start = c .before .before .before .before .before .before .before .before .before .before in
+    omega (arith, start .good .1 .1 .1 .1 .1 .0 .0)
 
--- src/choose.rt:104:9
 store-requires : tie.Need-store-requires Inv-loop μ-loop
-store-requires c κs = ?
+store-requires c κs = omega arith
 
--- src/choose.rt:105:35
 cast-plan : tie.Need-cast-plan Inv-loop μ-loop
-cast-plan c = ?
+cast-plan c =
+    let chose = c .before .before .before .before .before .before in
+    let start = chose .before .before .before .before .before .before .before .before in
+    omega (
+      arith,
+      speed-fits (start .pre .0) (chose .before .before .before .before .loop .number) (chose .before .before .if1 .taken)
+          (chose .before .queue-at .ensures) (chose .choose .ensures),
+    )
 
--- src/choose.rt:105:14
 add-plan : tie.Need-add-plan Inv-loop μ-loop
-add-plan c = ?
+add-plan c =
+    let chose = c .before .before .before .before .before .before .before in
+    let start = chose .before .before .before .before .before .before .before .before in
+    omega (arith, start .good .1 .1 .1 .1 .1 .1 .0 .0)
 
--- src/choose.rt:105:9
 slice-write-plan : tie.Need-slice-write-plan Inv-loop μ-loop
-slice-write-plan c = ?
+slice-write-plan c = omega arith
 
--- src/choose.rt:106:9
 add-number : tie.Need-add-number Inv-loop μ-loop
-add-number c = ?
+add-number c = omega arith
 
--- src/choose.rt:101:5
 loop-less : tie.Need-loop-less Inv-loop μ-loop
-loop-less c = ?
+loop-less c = omega arith
 
--- src/choose.rt:101:5
 loop-again : tie.Need-loop-again Inv-loop μ-loop
-loop-again c = ?
+loop-again c =
+    let chose = c .before .before .before .before .before .before .before in
+    let start = chose .before .before .before .before .before .before .before .before in
+    let a = start .args in
+    let ready = start .pre .0 in
+    let l = chose .before .before .before .before .loop in
+    let low = chose .before .before .if1 .taken in (
+      omega arith,
+      filled-more (counted (a .sheet)) (a .slot) (a .values .now) (a .plan .now) (queue-bearable ready (l .number) low)
+          (choose-told ready (l .number) low (chose .before .queue-at .ensures) (chose .choose .ensures)) (l .inv .1)
+          (c .before .before .before .before .store .ensures) (omega arith),
+    )
 
--- src/choose.rt:88:1
 same-length : tie.Need-same-length Inv-loop μ-loop
-same-length c = ?
+same-length c = c .before .before .loop .inv .1 .values-filled .same-length
 
--- src/choose.rt:88:1
 same-length-2 : tie.Need-same-length-2 Inv-loop μ-loop
-same-length-2 c = ?
+same-length-2 c = c .before .before .loop .inv .1 .plan-filled .same-length
 
--- src/choose.rt:88:1
 returns : tie.Need-returns Inv-loop μ-loop
-returns c = ?
+returns c =
+    let start = c .before .before .before .before .before .before in
+    let a = start .args in
+    let l = c .before .before .loop in
+    filled-whole (counted (a .sheet)) (a .slot) (a .values .now) (a .plan .now)
+    (omega (arith, start .pre .0 .prepared .sized .queues-is)) (l .inv .1)
 
 pub fill-row-spec : {M : Type 1} → statement M
 fill-row-spec =

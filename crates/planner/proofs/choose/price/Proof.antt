@@ -1,44 +1,63 @@
+-- `price` meets its contract: none where the speed is below w(1), else what the buffer says of the queue after the slot and the scaled
+-- energy.
 use borrow.Author.Needs.{needs}
+use Prim.Native.Nat.{ℕ}
+use mathlib.Core.Path.{sym, _∙_, subst}
+use mathlib.Core.Option.{Option}
+use native.Mathlib.Omega.{arith}
+use Rattle.value.specs.Narrow.{width, valueOf}
+use Rattle.value.specs.Width.{Below}
+use Rattle.planner.proofs.Found.{ranges-fewer}
+use Rattle.planner.proofs.Prices.{price-none, price-some, room-fewer}
 use Rattle.planner.proofs.choose.price.Statement.{statement}
 use Rattle.planner.proofs.choose.price.Tie as tie
-use Rattle.planner.proofs.choose.price.Reads as reads
-use Rattle.planner.proofs.choose.price.Lts as lts
-use Rattle.planner.proofs.ahead.value_in_row.Reads as value-in-row-reads
-use Rattle.queues.proofs.after.Reads as after-reads
-use Rattle.value.proofs.add.Reads as add-reads
-use Rattle.value.proofs.none.Reads as none-reads
 
--- src/choose.rt:53:20
 array-read-if1 : tie.Need-array-read-if1
 array-read-if1 c = search needs
 
--- src/choose.rt:54:9
 none-requires : tie.Need-none-requires
 none-requires c κs = search needs
 
--- src/choose.rt:54:9
 returns : tie.Need-returns
-returns c = ?
+returns c =
+    let start = c .before .before .before .before in
+    let a = start .args in
+    c .none .ensures ∙
+    sym
+    (price-none (a .sizes .largest) (a .sizes .bound) (a .ahead .now) (valueOf (a .scale)) (a .t5) (a .one .speed) (a .one .energy)
+    (start .pre .2) (c .before .if1 .taken))
 
--- src/choose.rt:56:9
 after-requires : tie.Need-after-requires
 after-requires c κs = search needs
 
--- src/choose.rt:57:52
 sub-value-in-row : tie.Need-sub-value-in-row
 sub-value-in-row c = search needs
 
--- src/choose.rt:57:9
 value-in-row-requires : tie.Need-value-in-row-requires
-value-in-row-requires c κs = ?
+value-in-row-requires c κs =
+    let start = c .before .before .before .before .before in
+    let a = start .args in
+    (start .pre .0, ranges-fewer (start .pre .1), room-fewer (a .sizes .largest) (a .sizes .bound) (width .places) (start .pre .3))
 
--- src/choose.rt:58:5
 add-requires : tie.Need-add-requires
-add-requires c κs = ?
+add-requires c κs =
+    let start = c .before .before .before .before .before .before in
+    let a = start .args in
+    subst (λ (r : Option ℕ). Below (width .limit) r)
+    (price-some (a .sizes .largest) (a .sizes .bound) (a .ahead .now) (valueOf (a .scale)) (a .t5) (a .one .speed) (a .one .energy)
+    (start .pre .2) (start .pre .1 .bound-high) (omega arith) (c .before .before .before .if1 .left)
+    (c .before .before .after .ensures) (c .value-in-row .ensures))
+    (start .pre .4)
 
--- src/choose.rt:42:1
 returns-2 : tie.Need-returns-2
-returns-2 c = ?
+returns-2 c =
+    let start = c .before .before .before .before .before .before .before in
+    let a = start .args in
+    c .add .ensures ∙
+    sym
+    (price-some (a .sizes .largest) (a .sizes .bound) (a .ahead .now) (valueOf (a .scale)) (a .t5) (a .one .speed) (a .one .energy)
+    (start .pre .2) (start .pre .1 .bound-high) (omega arith) (c .before .before .before .before .if1 .left)
+    (c .before .before .before .after .ensures) (c .before .value-in-row .ensures))
 
 pub price-spec : {M : Type 1} → statement M
 price-spec =

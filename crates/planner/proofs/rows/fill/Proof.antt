@@ -1,35 +1,50 @@
+-- `fill` meets its contract: once the end row stands no slot is planned yet, and then every slot is.
+use native.Mathlib.Omega.{arith}
 use borrow.Author.Needs.{needs}
+use Rattle.model.specs.Counted.{counted}
+use Rattle.model.proofs.Refusal.{accepted}
+use Rattle.planner.proofs.Backward.{end-room, planned-none, planned-since}
 use Rattle.planner.proofs.rows.fill.Statement.{statement}
 use Rattle.planner.proofs.rows.fill.Tie as tie
-use Rattle.planner.proofs.rows.fill.Reads as reads
-use Rattle.planner.proofs.rows.fill.Lts as lts
-use Rattle.planner.proofs.rows.fill_end.Reads as fill-end-reads
-use Rattle.planner.proofs.rows.fill_slots.Reads as fill-slots-reads
-use Rattle.planner.proofs.sizes.place.Reads as place-reads
 
--- src/rows.rt:87:28
 place-requires : tie.Need-place-requires
-place-requires c κs = ?
+place-requires c κs =
+    let start = c .before .before in
+    let a = accepted (counted (start .args .sheet)) (start .pre .0 .accepted) in
+    (omega (arith, a .queues-high, start .pre .0 .sized .queues-is), a .ranged .horizon-high, omega arith)
 
--- src/rows.rt:87:5
 fill-end-requires : tie.Need-fill-end-requires
-fill-end-requires c κs = ?
+fill-end-requires c κs =
+    let start = c .before .before .before .before in
+    end-room (counted (start .args .sheet)) (start .args .sizes .queues) (c .before .place .result) (start .pre .0 .sized .queues-is)
+    (c .before .place .ensures) (start .args .values .now) (start .pre .2)
 
--- src/rows.rt:88:5
 fill-slots-requires : tie.Need-fill-slots-requires
-fill-slots-requires c κs = ?
+fill-slots-requires c κs =
+    let ended = c .before .before .before .before in
+    let placed = ended .before .before in
+    let start = placed .before .before .before in (
+      start .pre .0,
+      start .pre .1,
+      omega (arith, start .pre .2, ended .fill-end .ensures .same-length),
+      planned-none (counted (start .args .sheet)) (start .args .sizes .queues) (placed .place .result) (start .pre .0 .sized .queues-is)
+          (placed .place .ensures) (ended .fill-end .ensures) (start .args .plan .now),
+    )
 
--- src/rows.rt:83:1
 same-length : tie.Need-same-length
 same-length c = search needs
 
--- src/rows.rt:83:1
 same-length-2 : tie.Need-same-length-2
 same-length-2 c = search needs
 
--- src/rows.rt:83:1
 returns : tie.Need-returns
-returns c = ?
+returns c =
+    let called = c .before .before .before .before in
+    let ended = called .before .before .before .before .before in
+    let placed = ended .before .before in
+    let start = placed .before .before .before in
+    planned-since (counted (start .args .sheet)) (start .args .sizes .queues) (placed .place .result) (start .pre .0 .sized .queues-is)
+    (placed .place .ensures) (ended .fill-end .ensures) (start .args .sheet .horizon) (called .fill-slots .ensures)
 
 pub fill-spec : {M : Type 1} → statement M
 fill-spec =

@@ -1,51 +1,53 @@
+-- `fill_end` meets its contract. The loop's invariant: so many values of the end row stand there, and nothing else has changed.
+use Prim.Native.Nat.{_≤_, _-_}
+use mathlib.Core.Option.{some}
+use mathlib.Core.Path.{refl}
+use native.Mathlib.Omega.{arith}
+use Rattle.value.specs.Fills.{Fills}
+use Rattle.value.specs.Narrow.{width}
+use Rattle.value.specs.Width.{readAt}
+use Rattle.value.proofs.Filling.{read-local, fills-none, fills-more, fills-whole}
 use Rattle.planner.proofs.rows.fill_end.Statement.{statement}
 use Rattle.planner.proofs.rows.fill_end.Tie as tie
-use Rattle.planner.proofs.rows.fill_end.Reads as reads
-use Rattle.planner.proofs.rows.fill_end.Lts as lts
-use Rattle.value.proofs.of.Reads as of-reads
-use Rattle.value.proofs.store.Reads as store-reads
 
 abbrev Inv-loop : tie.InvT-loop
-Inv-loop queues from values₀ number₀ values number = ?
+Inv-loop queues from values₀ number₀ values number =
+    (number ≤ queues) × Fills (width .places) (readAt width) (λ i. some 0) from number values₀ values
 
 abbrev μ-loop : tie.MeasureT-loop
-μ-loop queues from values₀ number₀ values number = ?
+μ-loop queues from values₀ number₀ values number = queues - number
 
--- src/rows.rt:27:5
 loop-holds : tie.Need-loop-holds Inv-loop μ-loop
-loop-holds c = ?
+loop-holds c = (omega arith, fills-none (width .places) (readAt width) _ (c .before .args .from) (c .before .args .values .now))
 
--- src/rows.rt:28:30
 add-store : tie.Need-add-store Inv-loop μ-loop
-add-store c = ?
+add-store c = omega arith
 
--- src/rows.rt:28:45
 of-requires : tie.Need-of-requires Inv-loop μ-loop
-of-requires c κs = ?
+of-requires c κs = tt
 
--- src/rows.rt:28:9
 store-requires : tie.Need-store-requires Inv-loop μ-loop
-store-requires c κs = ?
+store-requires c κs = omega (arith, c .before .before .before .loop .inv .1 .same-length)
 
--- src/rows.rt:29:9
 add-number : tie.Need-add-number Inv-loop μ-loop
-add-number c = ?
+add-number c = omega arith
 
--- src/rows.rt:27:5
 loop-less : tie.Need-loop-less Inv-loop μ-loop
-loop-less c = ?
+loop-less c = omega arith
 
--- src/rows.rt:27:5
 loop-again : tie.Need-loop-again Inv-loop μ-loop
-loop-again c = ?
+loop-again c =
+    let start = c .before .before in (
+      omega arith,
+      fills-more (width .places) (readAt width) (read-local width) refl (start .before .of .ensures)
+          (start .before .before .before .before .loop .inv .1) (start .store .ensures),
+    )
 
--- src/rows.rt:22:1
 same-length : tie.Need-same-length Inv-loop μ-loop
-same-length c = ?
+same-length c = c .before .loop .inv .1 .same-length
 
--- src/rows.rt:22:1
 returns : tie.Need-returns Inv-loop μ-loop
-returns c = ?
+returns c = fills-whole (width .places) (readAt width) (c .before .loop .inv .1) (omega arith)
 
 pub fill-end-spec : {M : Type 1} → statement M
 fill-end-spec =

@@ -1,74 +1,131 @@
+-- `fill_slots` meets its contract. The loop's invariant: so many slots are planned, from the last one back, and the scale is W to the power
+-- of as many.
+use Prim.Native.Nat.{suc, _^_, _≤_, _-_}
+use mathlib.Core.Option.{some}
+use mathlib.Core.Path.{_≡_, refl, sym, ap, _∙_, subst}
+use native.Mathlib.Nat.{pow-zero}
+use native.Mathlib.Numerals.{add-one}
+use native.Mathlib.Omega.{arith}
+use lib.ListN.{length}
+use Rattle.model.specs.Counted.{counted, W}
+use Rattle.model.proofs.Refusal.{accepted, fields-right}
+use Rattle.value.specs.Narrow.{valueOf}
+use Rattle.planner.specs.Passes.{PlannedFrom}
+use Rattle.planner.proofs.Backward.{after-room, scale-next, scale-room, Stands, slot-stands, slot-in-plan, values-room, plan-room, next-stands, planned-more}
 use Rattle.planner.proofs.rows.fill_slots.Statement.{statement}
 use Rattle.planner.proofs.rows.fill_slots.Tie as tie
-use Rattle.planner.proofs.rows.fill_slots.Reads as reads
-use Rattle.planner.proofs.rows.fill_slots.Lts as lts
-use Rattle.planner.proofs.rows.fill_slot.Reads as fill-slot-reads
-use Rattle.planner.proofs.rows.slot_with.Reads as slot-with-reads
-use Rattle.sheets.proofs.weights.Reads as weights-reads
-use Rattle.value.proofs.add.Reads as add-reads
-use Rattle.value.proofs.of.Reads as of-reads
 
 abbrev Inv-loop : tie.InvT-loop
-Inv-loop counts sheet sizes values₀ plan₀ ahead₀ all scale₀ left₀ values plan ahead scale left = ?
+Inv-loop counts sheet sizes values₀ plan₀ ahead₀ all scale₀ left₀ values plan ahead scale left =
+    (left ≤ sheet .horizon) × (length ahead ≡ 7084) × (valueOf scale ≡ some (W (counted sheet) ^ left)) ×
+    PlannedFrom (counted sheet) left values₀ plan₀ values plan
 
 abbrev μ-loop : tie.MeasureT-loop
-μ-loop counts sheet sizes values₀ plan₀ ahead₀ all scale₀ left₀ values plan ahead scale left = ?
+μ-loop counts sheet sizes values₀ plan₀ ahead₀ all scale₀ left₀ values plan ahead scale left = sheet .horizon - left
 
--- src/rows.rt:71:9
 weights-requires : tie.Need-weights-requires Inv-loop μ-loop
-weights-requires c κs = ?
+weights-requires c κs = fields-right (counted (c .before .before .args .sheet)) (c .before .before .pre .0 .accepted)
 
--- src/rows.rt:72:9
 of-requires : tie.Need-of-requires Inv-loop μ-loop
-of-requires c κs = ?
+of-requires c κs = tt
 
--- src/rows.rt:74:5
 loop-holds : tie.Need-loop-holds Inv-loop μ-loop
-loop-holds c = ?
+loop-holds c =
+    let start = c .before .before .before .before in
+    (omega arith, refl, c .of .ensures ∙ ap (λ n. some n) (sym (pow-zero (W (counted (start .args .sheet))))), start .pre .3)
 
--- src/rows.rt:75:28
 of-requires-2 : tie.Need-of-requires-2 Inv-loop μ-loop
-of-requires-2 c κs = ?
+of-requires-2 c κs = tt
 
--- src/rows.rt:75:9
 add-requires : tie.Need-add-requires Inv-loop μ-loop
-add-requires c κs = ?
+add-requires c κs =
+    let turn = c .before .before .before in
+    let start = turn .before .before .before .before .before in
+    let s = counted (start .args .sheet) in
+    scale-room s (accepted s (start .pre .0 .accepted)) (turn .loop .left) (c .before .if1 .taken) (turn .before .before .weights .ensures)
+    (c .of2 .ensures) (turn .loop .inv .2)
 
--- src/rows.rt:76:13
 slot-with-requires : tie.Need-slot-with-requires Inv-loop μ-loop
-slot-with-requires c κs = ?
+slot-with-requires c κs =
+    let start = c .before .before .before .before .before .before .before .before .before in
+    let a = accepted (counted (start .args .sheet)) (start .pre .0 .accepted) in
+    (omega (arith, a .queues-high, start .pre .0 .sized .queues-is), a .ranged .horizon-high, c .before .before .if1 .taken)
 
--- src/rows.rt:77:47
+-- the slot of this turn stands where it should
+stands : (c : tie.After-slot-with Inv-loop μ-loop) →
+    let turn = c .before .before .before .before .before in
+    Stands (counted (turn .before .before .before .before .before .args .sheet)) (turn .loop .left) (c .slot-with .result)
+stands c =
+    let turn = c .before .before .before .before .before in
+    let start = turn .before .before .before .before .before in
+    slot-stands (counted (start .args .sheet)) (turn .loop .left) (c .slot-with .result) (start .pre .0 .sized .queues-is)
+    (c .before .before .before .if1 .taken) (c .slot-with .ensures)
+
+-- and its scale is right
+scaled : (c : tie.After-add Inv-loop μ-loop) →
+    let turn = c .before .before .before .before in
+    valueOf (c .add .result) ≡ some (W (counted (turn .before .before .before .before .before .args .sheet)) ^ suc (turn .loop .left))
+scaled c =
+    let turn = c .before .before .before .before in
+    let start = turn .before .before .before .before .before in
+    c .add .ensures ∙
+    scale-next (W (counted (start .args .sheet))) (turn .loop .left) (turn .before .before .weights .ensures) (c .before .of2 .ensures)
+    (turn .loop .inv .2)
+
 slice-aggregate-fill-slot : tie.Need-slice-aggregate-fill-slot Inv-loop μ-loop
-slice-aggregate-fill-slot c = ?
+slice-aggregate-fill-slot c = sym (c .before .before .before .before .before .before .loop .inv .1)
 
--- src/rows.rt:77:9
 fill-slot-requires : tie.Need-fill-slot-requires Inv-loop μ-loop
-fill-slot-requires c κs = ?
+fill-slot-requires c κs =
+    let made = c .before .before .before in
+    let turn = made .before .before .before .before .before in
+    let start = turn .before .before .before .before .before in
+    let s = counted (start .args .sheet) in
+    let k = turn .loop .left in
+    let slot = made .slot-with .result in
+    let at = stands made in
+    let sized = start .pre .0 .sized in
+    let past = turn .loop .inv .3 in (
+      record { prepared = start .pre .0; in-plan = slot-in-plan s k slot at (made .slot-with .ensures .1) (scaled (made .before)) },
+      next-stands s k slot at past (start .pre .2),
+      omega (arith, after-room s (accepted s (start .pre .0 .accepted)), sized .after-is, turn .loop .inv .1),
+      omega (arith, values-room s k slot at past (start .pre .2), sized .queues-is),
+      omega (arith, plan-room s k slot at past (start .pre .1), sized .queues-is),
+    )
 
--- src/rows.rt:78:9
 add-left : tie.Need-add-left Inv-loop μ-loop
-add-left c = ?
+add-left c = omega arith
 
--- src/rows.rt:74:5
 loop-less : tie.Need-loop-less Inv-loop μ-loop
-loop-less c = ?
+loop-less c = omega arith
 
--- src/rows.rt:74:5
 loop-again : tie.Need-loop-again Inv-loop μ-loop
-loop-again c = ?
+loop-again c =
+    let called = c .before .before .before .before .before in
+    let made = called .before .before .before .before in
+    let turn = made .before .before .before .before .before in
+    let s = counted (turn .before .before .before .before .before .args .sheet) in
+    let k = turn .loop .left in (
+      omega arith,
+      called .fill-slot .kept .1 .1 .1 .1 .0 ∙ turn .loop .inv .1,
+      scaled (made .before) ∙ ap (λ n. some (W s ^ n)) (sym (add-one k)),
+      planned-more s k (made .slot-with .result) (stands made) (turn .loop .inv .3) (called .fill-slot .ensures),
+    )
 
--- src/rows.rt:66:1
 same-length : tie.Need-same-length Inv-loop μ-loop
-same-length c = ?
+same-length c = c .before .before .loop .inv .3 .values-length
 
--- src/rows.rt:66:1
 same-length-2 : tie.Need-same-length-2 Inv-loop μ-loop
-same-length-2 c = ?
+same-length-2 c = c .before .before .loop .inv .3 .plan-length
 
--- src/rows.rt:66:1
 returns : tie.Need-returns Inv-loop μ-loop
-returns c = ?
+returns c =
+    let turn = c .before .before in
+    let start = turn .before .before .before .before .before in
+    let s = counted (start .args .sheet) in
+    let all : turn .loop .left ≡ s .horizon = omega (arith, turn .loop .inv .0, c .if1 .left) in
+    subst (λ k. PlannedFrom s k (start .args .values .now) (start .args .plan .now) (turn .loop .values) (turn .loop .plan)) all
+    (turn .loop .inv .3)
 
 pub fill-slots-spec : {M : Type 1} → statement M
 fill-slots-spec =

@@ -1,18 +1,16 @@
+-- `place` meets its contract: no product of at most 200 and 65,535 wraps.
+use native.Mathlib.Nat.{mul-le-mul}
+use native.Mathlib.Omega.{arith}
 use borrow.Author.Needs.{needs}
 use Rattle.planner.proofs.sizes.place.Statement.{statement}
 use Rattle.planner.proofs.sizes.place.Tie as tie
-use Rattle.planner.proofs.sizes.place.Reads as reads
-use Rattle.planner.proofs.sizes.place.Lts as lts
 
--- src/sizes.rt:53:5
 mul-result : tie.Need-mul-result
-mul-result c = ?
+mul-result c = omega (arith, mul-le-mul (c .pre .1) (c .pre .0))
 
--- src/sizes.rt:53:5
 add-result : tie.Need-add-result
-add-result c = ?
+add-result c = omega (arith, mul-le-mul (c .pre .1) (c .pre .0))
 
--- src/sizes.rt:49:1
 returns : tie.Need-returns
 returns c = search needs
 

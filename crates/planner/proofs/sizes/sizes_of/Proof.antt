@@ -1,34 +1,51 @@
+-- `sizes_of` meets its contract: the largest speed is M, and the counts are those of its queues and of the queues of one position fewer.
+use Prim.Native.Nat.{ℕ, _-_}
+use mathlib.Core.Path.{refl, ap, _∙_}
+use native.Mathlib.Omega.{arith}
 use borrow.Author.Needs.{needs}
+use Rattle.model.proofs.Refusal.{accepted}
+use Rattle.model.specs.Counted.{counted, M}
+use Rattle.model.specs.Queue.{queueCount}
+use Rattle.model.specs.Refusal.{N}
+use Rattle.model.proofs.Refusal.{fields-right}
+use Rattle.planner.proofs.Found.{ranges-of, one-fewer}
 use Rattle.planner.proofs.sizes.sizes_of.Statement.{statement}
 use Rattle.planner.proofs.sizes.sizes_of.Tie as tie
-use Rattle.planner.proofs.sizes.sizes_of.Reads as reads
-use Rattle.planner.proofs.sizes.sizes_of.Lts as lts
-use Rattle.queues.proofs.queue_count.Reads as queue-count-reads
-use Rattle.sheets.proofs.greatest_of.Reads as greatest-of-reads
 
--- src/sizes.rt:37:9
 greatest-of-requires : tie.Need-greatest-of-requires
-greatest-of-requires c κs = ?
+greatest-of-requires c κs = fields-right (counted (c .args .sheet)) (c .pre .1)
 
--- src/sizes.rt:39:17
 cast-bound : tie.Need-cast-bound
 cast-bound c = search needs
 
--- src/sizes.rt:43:17
 queue-count-requires : tie.Need-queue-count-requires
-queue-count-requires c κs = ?
+queue-count-requires c κs =
+    let start = c .before .before in
+    let right = accepted (counted (start .args .sheet)) (start .pre .1) .ranged in
+    (start .pre .0, ranges-of right (c .before .greatest-of .ensures .0) (omega arith))
 
--- src/sizes.rt:44:45
 sub-queue-count : tie.Need-sub-queue-count
-sub-queue-count c = ?
+sub-queue-count c =
+    let start = c .before .before .before in
+    accepted (counted (start .args .sheet)) (start .pre .1) .ranged .bound-low
 
--- src/sizes.rt:44:16
 queue-count-requires-2 : tie.Need-queue-count-requires-2
-queue-count-requires-2 c κs = ?
+queue-count-requires-2 c κs =
+    let start = c .before .before .before in
+    let right = accepted (counted (start .args .sheet)) (start .pre .1) .ranged in
+    (start .pre .0, ranges-of right (c .before .before .greatest-of .ensures .0) (omega arith))
 
--- src/sizes.rt:33:1
 returns : tie.Need-returns
-returns c = ?
+unfolding N
+returns c =
+    let s = counted (c .before .before .before .before .args .sheet) in
+    let most = c .before .before .before .greatest-of .ensures .0 in
+    record {
+      largest-is = most;
+      bound-is = refl;
+      queues-is = c .before .queue-count .ensures ∙ ap (λ (m : ℕ). queueCount m (s .bound)) most;
+      after-is = c .queue-count2 .ensures ∙ ap (λ (m : ℕ). queueCount m (s .bound - 1)) most ∙ ap (queueCount (M s)) (one-fewer (s .bound));
+    }
 
 pub sizes-of-spec : {M : Type 1} → statement M
 sizes-of-spec =

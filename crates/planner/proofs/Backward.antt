@@ -1,0 +1,246 @@
+-- The rows of a plan, the end row first and then slot by slot from the last one back: where each row stands in the lent memory, what a slot
+-- finds there, and that the rows behind it stay as they are while it fills its own. The proofs of src/rows.rt stand on these laws.
+use Prim.Native.Nat.{ℕ, zero, suc, pred, _+_, _*_, _-_, _^_, _≤_, _<_}
+use mathlib.Core.Path.{_≡_, refl, sym, ap, _∙_, subst}
+use mathlib.Core.Bool.{Bool, true, false}
+use mathlib.Core.List.{List}
+use mathlib.Core.Logic.{inr, ⊎-elim}
+use mathlib.Core.Option.{Option, some}
+use native.Mathlib.Nat.{add-mul, mul-le-mul-right, one-mul, suc-mul, eq-or-lt-of-le, pow-succ'}
+use native.Mathlib.Omega.{arith}
+use lib.Dec.{T}
+use lib.ListN.{length, getD}
+use Rattle.process.specs.Recursion.{plus, times, only, value}
+use Rattle.model.specs.Counted.{Counted, W, M}
+use Rattle.model.specs.Plan.{processOf, queueAt, placeAt, valuesNeeded, planNeeded}
+use Rattle.model.specs.Queue.{bearable, queueCount}
+use Rattle.model.specs.Refusal.{N}
+use Rattle.model.proofs.Queues.{listed-bearable}
+use Rattle.model.proofs.Refusal.{Accepted, M-low, M-high}
+use Rattle.queues.proofs.Fewer.{few-after}
+use Rattle.value.specs.Fills.{Fills, numberAt}
+use Rattle.value.specs.Narrow.{width, valueOf}
+use Rattle.value.specs.Width.{readAt, Below}
+use Rattle.value.specs.declared.Value.{Value}
+use Rattle.value.proofs.Filling.{read-local, number-local, fills-outside}
+use Rattle.planner.specs.Passes.{valueWith, choiceWith, aheadOf, queueAfter, byteOf, ValueRow, AheadRow, InPlan, Planned, PlannedFrom}
+use Rattle.planner.specs.declared.sizes.Slot.{Slot}
+use Rattle.planner.proofs.Fits.{scale-fits}
+
+-- of an accepted sheet
+
+-- the buffer of what is ahead has room for the queues after a slot
+pub after-room : (s : Counted) → Accepted s → queueCount (M s) (pred (s .bound)) ≤ 7084
+unfolding N
+after-room s a = go (s .bound) (a .ranged .bound-low) (a .ranged .bound-high) (a .queues-high)
+  where
+    go : (D : ℕ) → 1 ≤ D → D ≤ 6 → queueCount (M s) D ≤ 65535 → queueCount (M s) (pred D) ≤ 7084
+    go zero low high few = absurd (omega arith)
+    go (suc D) low high few =
+        few-after (M s) D (record { speed-low = M-low s (a .ranged); speed-high = M-high s (a .ranged); bound-high = high }) few
+
+-- the scale, W to the power of the slots left
+
+-- one slot more is one factor W more
+pub scale-next : (w k : ℕ) {all : ℕ} {first scale : Option ℕ} → all ≡ w → first ≡ some 0 → scale ≡ some (w ^ k) →
+    plus first (times all scale) ≡ some (w ^ suc k)
+scale-next w k {all = all} {scale = scale} same e d =
+    ap (λ (p : Option ℕ). plus p (times all scale)) e ∙ ap (λ (p : Option ℕ). plus (some 0) (times all p)) d ∙
+    ap (λ (n : ℕ). some n) (omega (arith, ap (λ (n : ℕ). n * w ^ k) same, pow-succ' w k))
+
+-- and it fits while a slot is left
+pub scale-room : (s : Counted) → Accepted s → (k : ℕ) {all : ℕ} {first scale : Option ℕ} → k < s .horizon → all ≡ W s → first ≡ some 0 →
+    scale ≡ some (W s ^ k) → Below (width .limit) (plus first (times all scale))
+scale-room s a k h same e d = subst (λ (r : Option ℕ). Below (width .limit) r) (sym (scale-next (W s) k same e d)) (scale-fits s a k h)
+
+-- where the rows stand: row t from place t times N
+
+-- a row begins where an earlier one has ended, or behind that
+row-behind : (n t u : ℕ) → t < u → t * n + n ≤ u * n
+row-behind n t u h = omega (arith, mul-le-mul-right n h, suc-mul t n)
+
+-- the row of the slot with so many left, as the code finds it
+
+module _ (horizon left n this : ℕ) (h : left < horizon) (e : this ≡ (horizon - 1 - left) * n + 0) where
+  -- the next row begins where it ends
+  pub row-next : (next : ℕ) → next ≡ (horizon - 1 - left + 1) * n + 0 → next ≡ this + n
+  row-next next d = omega (arith, add-mul (horizon - 1 - left) 1 n, one-mul n)
+
+  -- it and as many rows as are left reach to the end row
+  pub row-back : this + suc left * n ≡ horizon * n
+  row-back =
+      let all : horizon ≡ horizon - 1 - left + suc left = omega arith in
+      omega (arith, ap (λ (x : ℕ). x * n) all, add-mul (horizon - 1 - left) (suc left) n)
+
+-- a slot that has k left after it, whose rows begin as many rows before the end row, and the next one behind them
+pub record Stands (s : Counted) (k : ℕ) (slot : Slot) : Type 0 where
+  pub left-low : k < s .horizon
+  pub left-is : slot .left ≡ k
+  pub next-is : slot .next ≡ slot .this + N s
+  pub row-is : slot .row ≡ slot .this
+  pub this-is : slot .this + suc k * N s ≡ s .horizon * N s
+
+-- so does the slot that the code makes
+pub slot-stands : (s : Counted) (k : ℕ) (slot : Slot) {queues : ℕ} {scale : Value} → queues ≡ N s → k < s .horizon →
+    (slot .left ≡ k) × (slot .scale ≡ scale) × (slot .next ≡ slot .this + queues) × (slot .row ≡ slot .this) ×
+    (slot .this + suc k * queues ≡ s .horizon * queues) → Stands s k slot
+slot-stands s k slot {queues = queues} e low made =
+    record {
+      left-low = low;
+      left-is = made .0;
+      next-is = omega (arith, made .2);
+      row-is = made .3;
+      this-is = subst (λ (n : ℕ). slot .this + suc k * n ≡ s .horizon * n) e (made .4);
+    }
+
+-- it is one of the sheet's, and has its scale
+pub slot-in-plan : (s : Counted) (k : ℕ) (slot : Slot) {scale : Value} → Stands s k slot → slot .scale ≡ scale → valueOf scale ≡ some (W s ^ suc k) →
+    InPlan s slot
+slot-in-plan s k slot at e d =
+    record {
+      left-low = omega (arith, at .left-low, at .left-is);
+      scale-is = ap valueOf e ∙ d ∙ ap (λ (l : ℕ). some (W s ^ suc l)) (sym (at .left-is));
+    }
+
+module _ (s : Counted) (k : ℕ) (slot : Slot) (at : Stands s k slot) where
+  -- the slot itself, counted from 0
+  abbrev t : ℕ
+  t = s .horizon - suc k
+
+  -- its rows begin where row t does
+  this-place : slot .this ≡ t * N s
+  this-place =
+      let all : s .horizon ≡ t + suc k = omega (arith, at .left-low) in
+      omega (arith, at .this-is, ap (λ (x : ℕ). x * N s) all, add-mul t (suc k) (N s))
+
+  -- they end where the end row begins, or before
+  rows-within : slot .this + N s ≤ s .horizon * N s
+  rows-within = omega (arith, this-place, row-behind (N s) t (s .horizon) (omega (arith, at .left-low)))
+
+  module _ {values₀ plan₀ values plan : List ℕ} (past : PlannedFrom s k values₀ plan₀ values plan) where
+    -- its row of values is within the lent memory
+    pub values-room : valuesNeeded s * width .places ≤ length values₀ → (slot .this + N s) * width .places ≤ length values
+    values-room room = omega (arith, rows-within, past .values-length, suc-mul (s .horizon) (N s))
+
+    -- and so is its row of the plan
+    pub plan-room : planNeeded s ≤ length plan₀ → slot .row + N s ≤ length plan
+    plan-room room = omega (arith, rows-within, past .plan-length, at .row-is)
+
+    -- the row of the next slot stands
+    pub next-stands : valuesNeeded s * width .places ≤ length values₀ → ValueRow s (slot .left) (slot .next) values
+    next-stands room =
+        record {
+          room = omega (arith, rows-within, past .values-length, suc-mul (s .horizon) (N s), at .next-is);
+          right = λ i h.
+              let left : s .horizon - suc t ≡ slot .left = omega (arith, at .left-low, at .left-is) in
+              let place : placeAt s (suc t) i ≡ slot .next + i = omega (arith, this-place, at .next-is, suc-mul t (N s)) in
+              subst (λ (p : ℕ). readAt width values p ≡ valueWith s (slot .left) (queueAt s i)) place
+              (past .values-right (suc t) i (omega (arith, at .left-low)) (omega (arith, at .left-low)) h ∙
+              ap (λ (l : ℕ). valueWith s l (queueAt s i)) left);
+        }
+
+    -- where the slot has filled its rows, one slot more is planned: the rows behind its own are as they were
+    pub planned-more : {values′ plan′ : List ℕ} → Planned s slot values plan values′ plan′ → PlannedFrom s (k + 1) values₀ plan₀ values′ plan′
+    planned-more {values′ = values′} {plan′ = plan′} filled =
+        record {
+          values-length = filled .values-filled .same-length ∙ past .values-length;
+          plan-length = filled .plan-filled .same-length ∙ past .plan-length;
+          values-right = λ u i from upto h. ⊎-elim (value-here u i h) (value-behind u i upto h) (eq-or-lt-of-le (reached u from));
+          plan-right = λ u i from upto h. ⊎-elim (byte-here u i h) (byte-behind u i upto h) (eq-or-lt-of-le (reached u from));
+          values-beyond = λ p h.
+              filled .values-filled .outside p (inr (omega (arith, rows-within, suc-mul (s .horizon) (N s)))) ∙ past .values-beyond p h;
+          plan-beyond = λ p h. filled .plan-filled .outside p (inr (omega (arith, rows-within, at .row-is))) ∙ past .plan-beyond p h;
+        }
+      where
+        reached : (u : ℕ) → s .horizon ≤ u + (k + 1) → t ≤ u
+        reached u h = omega (arith, at .left-low)
+
+        here : (u i : ℕ) → t ≡ u → slot .this + i ≡ placeAt s u i
+        here u i e = omega (arith, this-place, ap (λ (x : ℕ). x * N s) e)
+
+        behind : (u i : ℕ) → t < u → slot .this + N s ≤ placeAt s u i
+        behind u i l = omega (arith, this-place, row-behind (N s) t u l)
+
+        value-here : (u i : ℕ) → i < N s → t ≡ u → readAt width values′ (placeAt s u i) ≡ valueWith s (s .horizon - u) (queueAt s i)
+        value-here u i h e =
+            let left : suc (slot .left) ≡ s .horizon - u = omega (arith, at .left-low, at .left-is) in
+            subst (λ (p : ℕ). readAt width values′ p ≡ valueWith s (s .horizon - u) (queueAt s i)) (here u i e)
+            (filled .values-filled .filled i h ∙ ap (λ (l : ℕ). valueWith s l (queueAt s i)) left)
+
+        value-behind : (u i : ℕ) → u ≤ s .horizon → i < N s → t < u →
+            readAt width values′ (placeAt s u i) ≡ valueWith s (s .horizon - u) (queueAt s i)
+        value-behind u i upto h l =
+            fills-outside (width .places) (readAt width) (read-local width) (filled .values-filled) (placeAt s u i) (inr (behind u i l)) ∙
+            past .values-right u i (omega arith) upto h
+
+        byte-here : (u i : ℕ) → i < N s → t ≡ u → getD plan′ (placeAt s u i) 0 ≡ byteOf (choiceWith s (pred (s .horizon - u)) (queueAt s i))
+        byte-here u i h e =
+            let left : slot .left ≡ pred (s .horizon - u) = omega (arith, at .left-low, at .left-is) in
+            let place : slot .row + i ≡ placeAt s u i = omega (arith, here u i e, at .row-is) in
+            subst (λ (p : ℕ). getD plan′ p 0 ≡ byteOf (choiceWith s (pred (s .horizon - u)) (queueAt s i))) place
+            (filled .plan-filled .filled i h ∙ ap (λ (l : ℕ). byteOf (choiceWith s l (queueAt s i))) left)
+
+        byte-behind : (u i : ℕ) → u < s .horizon → i < N s → t < u →
+            getD plan′ (placeAt s u i) 0 ≡ byteOf (choiceWith s (pred (s .horizon - u)) (queueAt s i))
+        byte-behind u i upto h l =
+            fills-outside 1 numberAt number-local (filled .plan-filled) (placeAt s u i) (inr (omega (arith, behind u i l, at .row-is))) ∙
+            past .plan-right u i (omega arith) upto h
+
+-- the first pass leaves what the second one needs
+pub ahead-stands : (s : Counted) (k after : ℕ) {ahead₀ ahead : List ℕ} → after ≡ queueCount (M s) (pred (s .bound)) →
+    after * width .places ≤ length ahead₀ →
+    Fills (width .places) (readAt width) (λ i. aheadOf s k (queueAfter s i)) 0 after ahead₀ ahead → AheadRow s k ahead
+ahead-stands s k after e room filled =
+    record { room = omega (arith, filled .same-length); right = λ i h. filled .filled i (omega arith) }
+
+-- the end row
+
+-- with no slot left every queue has a value, 0
+pub value-last : (s : Counted) (i : ℕ) → i < N s → valueWith s 0 (queueAt s i) ≡ some 0
+unfolding valueWith value processOf N
+value-last s i h = go (bearable (M s) (queueAt s i)) (listed-bearable (M s) (s .bound) i h .1)
+  where
+    go : (b : Bool) → T b → only b (some 0) ≡ some 0
+    go true t = refl
+    go false t = absurd t
+
+module _ (s : Counted) (queues from : ℕ) (e : queues ≡ N s) (d : from ≡ s .horizon * queues + 0) where
+  -- it begins behind the rows of all slots
+  end-place : from ≡ s .horizon * N s
+  end-place = omega (arith, ap (λ (n : ℕ). s .horizon * n) e)
+
+  -- it is within the lent memory
+  pub end-room : (values : List ℕ) → valuesNeeded s * width .places ≤ length values → (from + queues) * width .places ≤ length values
+  end-room values room = omega (arith, end-place, suc-mul (s .horizon) (N s))
+
+  module _ {values₀ values : List ℕ} (filled : Fills (width .places) (readAt width) (λ i. some 0) from queues values₀ values) where
+    -- once it stands the lent memory is planned as far as no slot
+    pub planned-none : (plan : List ℕ) → PlannedFrom s 0 values plan values plan
+    planned-none plan =
+        record {
+          values-length = refl;
+          plan-length = refl;
+          values-right = λ t i low upto h. last t i (omega arith) h;
+          plan-right = λ t i low upto h. absurd (omega arith);
+          values-beyond = λ p h. refl;
+          plan-beyond = λ p h. refl;
+        }
+      where
+        last : (t i : ℕ) → t ≡ s .horizon → i < N s → readAt width values (placeAt s t i) ≡ valueWith s (s .horizon - t) (queueAt s i)
+        last t i here h =
+            let place : from + i ≡ placeAt s t i = omega (arith, end-place, ap (λ (x : ℕ). x * N s) here) in
+            let none : 0 ≡ s .horizon - t = omega arith in
+            subst (λ (p : ℕ). readAt width values p ≡ valueWith s (s .horizon - t) (queueAt s i)) place
+            (filled .filled i (omega arith) ∙ sym (value-last s i h) ∙ ap (λ (k : ℕ). valueWith s k (queueAt s i)) none)
+
+    -- what is planned from there on is planned from before it was filled on
+    pub planned-since : (k : ℕ) {plan₀ values′ plan′ : List ℕ} → PlannedFrom s k values plan₀ values′ plan′ → PlannedFrom s k values₀ plan₀ values′ plan′
+    planned-since k past =
+        record {
+          values-length = past .values-length ∙ filled .same-length;
+          plan-length = past .plan-length;
+          values-right = past .values-right;
+          plan-right = past .plan-right;
+          values-beyond = λ p h. past .values-beyond p h ∙ filled .outside p (inr (omega (arith, end-place, suc-mul (s .horizon) (N s))));
+          plan-beyond = past .plan-beyond;
+        }

@@ -1,0 +1,125 @@
+-- That what stands in the lent memory is right by the published problem: the recursion's values are the values of document 01, its choices
+-- are the plan's speeds, and memory that is planned from the horizon back to slot 0 is filled as the model says.
+use Prim.Native.Nat.{ℕ, zero, suc, pred, _+_, _-_, _≤_, _<_}
+use mathlib.Core.Path.{_≡_, refl, sym, ap, _∙_, subst}
+use mathlib.Core.Bool.{Bool, true, false}
+use mathlib.Core.List.{List}
+use mathlib.Core.Option.{Option, Option·getD}
+use native.Mathlib.Nat.{mul-one, not-suc-le-zero}
+use native.Mathlib.Omega.{arith}
+use lib.Dec.{T}
+use lib.ListN.{length, getD, drop, length-drop}
+use lib.Seq.{ext-getD, getD-drop}
+use Rattle.process.proofs.Value.{value-is, first-is}
+use Rattle.process.specs.Recursion.{only, Choice, nothing, chosen, worth, actionOf, value, plan}
+use Rattle.process.specs.Ways.{IsValue, IsFirst}
+use Rattle.model.proofs.Queues.{listed-bearable, empty-first}
+use Rattle.model.proofs.Refusal.{Accepted, speeds-rise, N-low}
+use Rattle.model.specs.Counted.{Counted, weightAt, M}
+use Rattle.model.specs.Plan.{processOf, IsValueAt, IsPlanByte, valueIn, queueAt, placeAt, valuesNeeded, planNeeded, PlanAnswer, Decided, Filled, number12}
+use Rattle.model.specs.Queue.{Queue, emptyQueue, bearable}
+use Rattle.model.specs.Refusal.{N}
+use Rattle.value.proofs.OnePlace.{read-is}
+use Rattle.value.specs.Narrow.{width}
+use Rattle.value.specs.Width.{readAt}
+use Rattle.planner.specs.Passes.{valueWith, choiceWith, byteOf, PlannedFrom}
+
+-- the planner reads a value as the model does: the code of none is the same
+pub read-value-in : (l : List ℕ) (i : ℕ) → readAt width l i ≡ valueIn l i
+read-value-in l i = read-is l i
+
+-- lists that are equal from n on, place by place
+drop-same : (n : ℕ) (l m : List ℕ) → length l ≡ length m → ((p : ℕ) → n ≤ p → getD l p 0 ≡ getD m p 0) → drop n l ≡ drop n m
+drop-same n l m long same =
+    ext-getD 0 (drop n l) (drop n m) (length-drop n l ∙ ap (λ (k : ℕ). k - n) long ∙ sym (length-drop n m))
+    (λ i h. getD-drop n l i 0 ∙ same (n + i) (omega arith) ∙ sym (getD-drop n m i 0))
+
+-- what is there only where a test passes, where it passes
+only-passed : (b : Bool) (r : Option ℕ) → T b → only b r ≡ r
+only-passed true r t = refl
+only-passed false r t = absurd t
+
+module _ (s : Counted) (a : Accepted s) where
+  -- the recursion's value is the least scaled energy of a good way, or none where no way is good
+  pub value-right : (k : ℕ) (w : Queue) → IsValue (processOf s) (s .jobCount) (weightAt s) k w (valueWith s k w)
+  unfolding valueWith
+  value-right k w = value-is (processOf s) (s .jobCount) (weightAt s) (a .ranged .jobs-low) k w
+
+  -- with slots left, in a bearable queue, it is what the recursion's choice costs
+  value-worth : (k : ℕ) (w : Queue) → 1 ≤ k → T (bearable (M s) w) → valueWith s k w ≡ worth (choiceWith s (pred k) w)
+  unfolding valueWith choiceWith value processOf
+  value-worth zero w h b = absurd (not-suc-le-zero h)
+  value-worth (suc k) w h b = only-passed (bearable (M s) w) _ b
+
+  -- and the speed of that choice is the smallest first speed of a least good way
+  first-right : (k : ℕ) (w : Queue) (speed v : ℕ) → 1 ≤ k → T (bearable (M s) w) → choiceWith s (pred k) w ≡ chosen speed v →
+      IsFirst (processOf s) (s .jobCount) (weightAt s) k w speed
+  unfolding valueWith choiceWith plan processOf
+  first-right zero w speed v h b e = absurd (not-suc-le-zero h)
+  first-right (suc k) w speed v h b e =
+      subst (λ (x : ℕ). IsFirst (processOf s) (s .jobCount) (weightAt s) (suc k) w x) (ap actionOf e)
+      (first-is (processOf s) (s .jobCount) (weightAt s) (a .ranged .jobs-low) (speeds-rise s (a .ranged)) k w v
+      (value-worth (suc k) w h b ∙ ap worth e))
+
+  -- the byte of the choice is the plan byte: 255 where the value is none, else that speed
+  pub byte-right : (t : ℕ) → t < s .horizon → (w : Queue) → T (bearable (M s) w) →
+      IsPlanByte s t w (valueWith s (s .horizon - t) w) (byteOf (choiceWith s (pred (s .horizon - t)) w))
+  byte-right t h w b =
+      subst (λ (r : Option ℕ). IsPlanByte s t w r (byteOf choice-is)) (sym (value-worth (s .horizon - t) w (omega arith) b)) (go choice-is refl)
+    where
+      choice-is : Choice
+      choice-is = choiceWith s (pred (s .horizon - t)) w
+
+      go : (c : Choice) → choice-is ≡ c → IsPlanByte s t w (worth c) (byteOf c)
+      go nothing e = refl
+      go (chosen speed v) e = first-right (s .horizon - t) w speed v (omega arith) b e
+
+  -- memory that is planned from the horizon back to slot 0
+  module _ {values₀ plan₀ values plan : List ℕ} (p : PlannedFrom s (s .horizon) values₀ plan₀ values plan) where
+    -- at each place of a slot and a queue stand its value and its plan byte
+    decided : (t i : ℕ) → t < s .horizon → i < N s → Decided s t i (valueIn values (placeAt s t i)) (getD plan (placeAt s t i) 0)
+    unfolding N
+    decided t i h k =
+        record {
+          r = valueWith s (s .horizon - t) (queueAt s i);
+          is-value = value-right (s .horizon - t) (queueAt s i);
+          in-values = sym (read-value-in values (placeAt s t i)) ∙ p .values-right t i (omega arith) (omega arith) k;
+          in-plan =
+              subst (λ (byte : ℕ). IsPlanByte s t (queueAt s i) (valueWith s (s .horizon - t) (queueAt s i)) byte)
+              (sym (p .plan-right t i (omega arith) h k)) (byte-right t h (queueAt s i) (listed-bearable (M s) (s .bound) i k .1));
+        }
+
+    -- at each place of the end row stands its value
+    ended : (i : ℕ) → i < N s → IsValueAt s (s .horizon) (queueAt s i) (valueIn values (placeAt s (s .horizon) i))
+    ended i k =
+        subst (λ (r : Option ℕ). IsValueAt s (s .horizon) (queueAt s i) r)
+        (sym (p .values-right (s .horizon) i (omega arith) (omega arith) k) ∙ read-value-in values (placeAt s (s .horizon) i))
+        (value-right (s .horizon - s .horizon) (queueAt s i))
+
+    -- the first value of all is the empty queue's at slot 0
+    empty-value : IsValueAt s 0 (emptyQueue (s .bound)) (readAt width values (placeAt s 0 0))
+    empty-value =
+        subst (λ (w : Queue). IsValueAt s 0 w (readAt width values (placeAt s 0 0))) (empty-first (M s) (s .bound))
+        (subst (λ (r : Option ℕ). IsValueAt s 0 (queueAt s 0) r)
+        (sym (p .values-right 0 0 (omega arith) (omega arith) (omega (arith, N-low s (a .ranged))))) (value-right (s .horizon - 0) (queueAt s 0)))
+
+    -- it is filled as the model says, and the answer is right where its number and its least energy are those of the first value
+    pub planned-filled : (answer : PlanAnswer) {place : ℕ} {r : Option ℕ} → place ≡ placeAt s 0 0 → r ≡ readAt width values place →
+        answer .queues ≡ N s → answer .number ≡ number12 r → answer .least ≡ Option·getD r 0 → Filled valueIn s values₀ plan₀ values plan answer
+    planned-filled answer {place = place} {r = r} first e queues number least =
+        record {
+          rows = decided;
+          end-row = ended;
+          values-length = p .values-length;
+          plan-length = p .plan-length;
+          values-beyond = drop-same (valuesNeeded s) values values₀ (p .values-length) (λ q h. p .values-beyond q (rw mul-one h));
+          plan-beyond = drop-same (planNeeded s) plan plan₀ (p .plan-length) (p .plan-beyond);
+          queues = queues;
+          empty =
+              record {
+                r = r;
+                is-value = subst (λ (q : Option ℕ). IsValueAt s 0 (emptyQueue (s .bound)) q) (sym (e ∙ ap (readAt width values) first)) empty-value;
+                number = number;
+                least = least;
+              };
+        }
