@@ -11,7 +11,7 @@ use lib.Dec.{T}
 use lib.ListN.{length, getD}
 use Rattle.process.specs.Ways.{Way, Good}
 use Rattle.process.proofs.Definite.{value-unique}
-use Rattle.model.specs.Counted.{Counted, counted, weightAt, M}
+use Rattle.model.specs.Counted.{counted, weightAt, M}
 use Rattle.model.specs.Plan.{processOf, IsValueAt, IsPlanByte, valueIn, queueAt, placeAt, planRefusal, Filled, LeavesBy}
 use Rattle.model.specs.Plan as model-plan
 use Rattle.model.specs.Queue.{Queue, bearable, queueCount, numberOf, bearableQueues}

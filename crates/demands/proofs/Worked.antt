@@ -1,13 +1,13 @@
 -- The cases that document 01 marks P, of the planner itself: sheet A's values and plan, and the sheet that gives 12, are what `plan` leaves and
 -- answers, by its actual contract, for every sheet in memory with that view and any lent memory with room.
-use Prim.Native.Nat.{ℕ, suc, _+_, _*_, _≤_, _<_}
-use mathlib.Core.Path.{_≡_, sym, ap, _∙_, subst}
+use Prim.Native.Nat.{ℕ, zero, suc, _+_, _*_, _≤_, _<_}
+use mathlib.Core.Path.{_≡_, refl, sym, ap, _∙_, subst}
 use mathlib.Core.Bool.{_&&_}
 use mathlib.Core.List.{List, [], _∷_}
 use native.Mathlib.Omega.{arith}
 use lib.Dec.{leb, le→leb}
 use lib.ListN.{length, getD}
-use Rattle.model.specs.Cases.{A, A0, A1, hopeless, none64, planned, Holds, cases, casesP}
+use Rattle.model.specs.Cases.{A, A0, A1, hopeless, none64, Case, planned, numbers, Holds, AllHold, cases, casesP}
 use Rattle.model.specs.Counted.{Counted, counted}
 use Rattle.model.specs.Plan.{valueIn, placeAt, valuesNeeded, planNeeded, planRefusal, PlanAnswer, FromEmpty, Filled, LeavesBy, Leaves}
 use Rattle.model.specs.Refusal.{N, sheetRefusal}
@@ -29,53 +29,87 @@ room-passes s values plan e h k =
     check-passes (leb (valuesNeeded s) values && leb (planNeeded s) plan) 11
     (and-both (leb (valuesNeeded s) values) (leb (planNeeded s) plan) (le→leb (valuesNeeded s) values h) (le→leb (planNeeded s) plan k))
 
--- a plan of a sheet with the view s, lent room for both tables
+-- a case of the list that holds, by its place
+
+abbrev caseAt : List Case → ℕ → Case
+caseAt [] i = numbers 0 0
+caseAt (c ∷ rest) zero = c
+caseAt (c ∷ rest) (suc i) = caseAt rest i
+
+holds-at : (l : List Case) → AllHold l → (i : ℕ) → Holds (caseAt l i)
+holds-at [] h i = refl
+holds-at (c ∷ rest) h zero = h .0
+holds-at (c ∷ rest) h (suc i) = holds-at rest (h .1) i
+
+-- a plan of a sheet with the view s, which has n queues, lent room for both tables
 module _ {sheet : Sheet} {values₀ plan₀ values bytes : List ℕ} {a : code.PlanAnswer} (call : Plans sheet values₀ plan₀ a values bytes)
-    (s : Counted) (view : counted sheet ≡ s) (accepted : sheetRefusal s ≡ 0) (values-room : valuesNeeded s ≤ length values₀)
-    (plan-room : planNeeded s ≤ length plan₀) where
+    (s : Counted) (view : counted sheet ≡ s) (accepted : sheetRefusal s ≡ 0) (n : ℕ) (many : N s ≡ n)
+    (values-room : suc (s .horizon) * n ≤ length values₀) (plan-room : s .horizon * n ≤ length plan₀) where
   -- the lent memory is filled
   filled : Filled valueIn s values₀ plan₀ values bytes (answered a)
   filled =
       subst (λ (number : ℕ). LeavesBy number valueIn s values₀ plan₀ values bytes (answered a))
-      (room-passes s (length values₀) (length plan₀) accepted values-room plan-room)
+      (room-passes s (length values₀) (length plan₀) accepted
+      (subst (λ (m : ℕ). suc (s .horizon) * m ≤ length values₀) (sym many) values-room)
+      (subst (λ (m : ℕ). s .horizon * m ≤ length plan₀) (sym many) plan-room))
       (subst (λ (z : Counted). Leaves valueIn z values₀ plan₀ values bytes (answered a)) view (plan-is call))
 
   -- where a row of values and one of plan bytes are right for a slot, these rows are left
-  row-left : (t : ℕ) (row plan : List ℕ) → Holds (planned s t row plan) → t < s .horizon → (i : ℕ) → i < N s →
-      (getD values (placeAt s t i) 0 ≡ getD row i 0) × (getD bytes (placeAt s t i) 0 ≡ getD plan i 0)
-  row-left t row plan right h i l =
+  row-left : (t : ℕ) (row plan : List ℕ) → Holds (planned s t row plan) → t < s .horizon → (i place : ℕ) → place ≡ t * n + i → i < n →
+      (getD values place 0 ≡ getD row i 0) × (getD bytes place 0 ≡ getD plan i 0)
+  row-left t row plan right h i place e b =
+      let l = subst (λ (m : ℕ). i < m) (sym many) b in
       let same = decided-same s t i (filled .rows t i h l) (right .2 i l) in
+      subst (λ (p : ℕ). (getD values p 0 ≡ getD row i 0) × (getD bytes p 0 ≡ getD plan i 0)) (ap (λ (m : ℕ). t * m + i) many ∙ sym e)
       (decoded-same (getD values (placeAt s t i) 0) (getD row i 0) (same .0), same .1)
 
   -- where three numbers are the right answer, they are answered
-  answer-given : (number queues least : ℕ) → FromEmpty s (record { number = number; queues = queues; least = least }) → N s ≡ queues →
-      answered a ≡ record { number = number; queues = queues; least = least }
-  answer-given number queues least right count =
-      answer-same s (answered a) (record { number = number; queues = queues; least = least }) (filled .queues ∙ count) (filled .empty) right
+  answer-given : (number least : ℕ) → FromEmpty s (record { number = number; queues = n; least = least }) →
+      answered a ≡ record { number = number; queues = n; least = least }
+  answer-given number least right =
+      answer-same s (answered a) (record { number = number; queues = n; least = least }) (filled .queues ∙ many) (filled .empty) right
 
--- "P: values of slot 0: 0 4 8 20 32 4 8 20 32 16 20 32", "P: values of slot 1: 0 0 0 2 8 2 2 2 8 8 8 8", and the plan bytes of the listing
+-- "P: values of slot 0: 0 4 8 20 32 4 8 20 32 16 20 32"
+abbrev pub valuesA0 : List ℕ
+valuesA0 = 0 ∷ 4 ∷ 8 ∷ 20 ∷ 32 ∷ 4 ∷ 8 ∷ 20 ∷ 32 ∷ 16 ∷ 20 ∷ 32 ∷ []
+
+-- "P: values of slot 1: 0 0 0 2 8 2 2 2 8 8 8 8"
+abbrev pub valuesA1 : List ℕ
+valuesA1 = 0 ∷ 0 ∷ 0 ∷ 2 ∷ 8 ∷ 2 ∷ 2 ∷ 2 ∷ 8 ∷ 8 ∷ 8 ∷ 8 ∷ []
+
+-- these values, the plan bytes of the listing, and its header
 pub record IsPlanOfA (values bytes : List ℕ) (answer : PlanAnswer) : Type 0 where
-  pub slot-0 : (i : ℕ) → i < 12 →
-      (getD values i 0 ≡ getD (0 ∷ 4 ∷ 8 ∷ 20 ∷ 32 ∷ 4 ∷ 8 ∷ 20 ∷ 32 ∷ 16 ∷ 20 ∷ 32 ∷ []) i 0) × (getD bytes i 0 ≡ getD A0 i 0)
-  pub slot-1 : (i : ℕ) → i < 12 →
-      (getD values (12 + i) 0 ≡ getD (0 ∷ 0 ∷ 0 ∷ 2 ∷ 8 ∷ 2 ∷ 2 ∷ 2 ∷ 8 ∷ 8 ∷ 8 ∷ 8 ∷ []) i 0) × (getD bytes (12 + i) 0 ≡ getD A1 i 0)
+  pub slot-0 : (i : ℕ) → i < 12 → (getD values i 0 ≡ getD valuesA0 i 0) × (getD bytes i 0 ≡ getD A0 i 0)
+  pub slot-1 : (i : ℕ) → i < 12 → (getD values (12 + i) 0 ≡ getD valuesA1 i 0) × (getD bytes (12 + i) 0 ≡ getD A1 i 0)
   pub answer-is : answer ≡ record { number = 0; queues = 12; least = 0 }
 
 -- sheet A, planned in any lent memory with room, leaves and answers this
 pub plan-of-A : {sheet : Sheet} {values₀ plan₀ values bytes : List ℕ} {a : code.PlanAnswer} → Plans sheet values₀ plan₀ a values bytes →
     counted sheet ≡ A → 36 ≤ length values₀ → 24 ≤ length plan₀ → IsPlanOfA values bytes (answered a)
 unfolding cases casesP
-plan-of-A {values₀ = values₀} {plan₀ = plan₀} {values = values} {bytes = bytes} {a = a} call view h k =
-    let twelve : N A ≡ 12 = cases-hold .1 .0 .1 in
-    let values-room : valuesNeeded A ≤ length values₀ = subst (λ (n : ℕ). 3 * n ≤ length values₀) (sym twelve) h in
-    let plan-room : planNeeded A ≤ length plan₀ = subst (λ (n : ℕ). 2 * n ≤ length plan₀) (sym twelve) k in
-    let left : (t : ℕ) (row plan : List ℕ) → Holds (planned A t row plan) → t < 2 → (i : ℕ) → i < 12 →
-    (getD values (t * 12 + i) 0 ≡ getD row i 0) × (getD bytes (t * 12 + i) 0 ≡ getD plan i 0) =
-    λ t row plan right l i b.
-    subst (λ (n : ℕ). (getD values (t * n + i) 0 ≡ getD row i 0) × (getD bytes (t * n + i) 0 ≡ getD plan i 0)) twelve
-    (row-left call A view (cases-hold .0) values-room plan-room t row plan right l i (subst (λ (n : ℕ). i < n) (sym twelve) b)) in
+plan-of-A {values = values} {bytes = bytes} call view h k =
+    let holds = holds-at cases cases-hold in
+    let left = row-left call A view (holds 0) 12 (holds 1 .1) h k in
     record {
-      slot-0 = λ i b. left 0 _ A0 (cases-hold .1 .1 .0) (omega arith) i b;
-      slot-1 = λ i b. left 1 _ A1 (cases-hold .1 .1 .1 .1 .1 .1 .1 .0) (omega arith) i b;
-      answer-is = answer-given call A view (cases-hold .0) values-room plan-room 0 12 0 (cases-hold .1 .0 .0) twelve;
+      slot-0 = λ i b. left 0 valuesA0 A0 (holds 2) (omega arith) i i (omega arith) b;
+      slot-1 = λ i b. left 1 valuesA1 A1 (holds 7) (omega arith) i (12 + i) (omega arith) b;
+      answer-is = answer-given call A view (holds 0) 12 (holds 1 .1) h k 0 0 (holds 1 .0);
+    }
+
+-- "P: D 1, speeds 0 and 1 with energies 0 and 1, T 1, one job (1, 2, 1): number 12, plan bytes 255 255"
+pub record IsPlanOfHopeless (values bytes : List ℕ) (answer : PlanAnswer) : Type 0 where
+  pub slot-0 : (i : ℕ) → i < 2 → (getD values i 0 ≡ getD (none64 ∷ none64 ∷ []) i 0) × (getD bytes i 0 ≡ getD (255 ∷ 255 ∷ []) i 0)
+  pub answer-is : answer ≡ record { number = 12; queues = 2; least = 0 }
+
+-- that sheet, planned in any lent memory with room, leaves and answers this
+pub plan-of-hopeless : {sheet : Sheet} {values₀ plan₀ values bytes : List ℕ} {a : code.PlanAnswer} → Plans sheet values₀ plan₀ a values bytes →
+    counted sheet ≡ hopeless → 4 ≤ length values₀ → 2 ≤ length plan₀ → IsPlanOfHopeless values bytes (answered a)
+unfolding cases casesP
+plan-of-hopeless call view h k =
+    let holds = holds-at cases cases-hold in
+    record {
+      slot-0 = λ i b.
+          row-left call hopeless view (holds 27) 2 (holds 28 .1) h k 0 (none64 ∷ none64 ∷ []) (255 ∷ 255 ∷ []) (holds 29) (omega arith) i i
+          (omega arith) b;
+      answer-is = answer-given call hopeless view (holds 27) 2 (holds 28 .1) h k 12 0 (holds 28 .0);
     }

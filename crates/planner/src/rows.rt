@@ -72,9 +72,10 @@ fn fill_slots(counts: &[u32; 2352], sheet: Sheet, sizes: Sizes, values: &mut [u6
     let mut scale = value::of(1);
     let mut left = 0;
     while left < sheet.horizon {
-        scale = value::add(value::of(0), all, scale);
-        let slot = slot_with(sizes.queues, sheet.horizon, left, scale);
+        let with_this = value::add(value::of(0), all, scale);
+        let slot = slot_with(sizes.queues, sheet.horizon, left, with_this);
         fill_slot(counts, sheet, sizes, slot, &mut ahead, values, plan);
+        scale = with_this;
         left += 1;
     }
 }
