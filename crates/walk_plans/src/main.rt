@@ -1,6 +1,6 @@
 // Plans each sheet whose file is named as an argument, and prints a line for it: the file's name, what the plan answers, and a checksum
 // of all its values and of all its plan bytes. What it should print is stored beside the crate, and came from tests/independent.py.
-ghost use Prim.Native.Nat.{_<_};
+ghost use Prim.Native.Nat.{_*_, _≤_, _<_};
 use libc::STDOUT_FILENO;
 
 // A checksum and one number more.
@@ -9,6 +9,14 @@ fn with_number(sum: u64, number: u64) -> u64
     ensures { λ r. ⌜ r < 4294967291 ⌝ }
 {
     (sum * 1000003 + number % 4294967291) % 4294967291
+}
+
+// A checksum and one plan byte more.
+fn with_byte(sum: u64, byte: u8) -> u64
+    requires { ⌜ sum < 4294967291 ⌝ }
+    ensures { λ r. ⌜ r < 4294967291 ⌝ }
+{
+    with_number(sum, byte as u64)
 }
 
 // The checksum of the first values.
@@ -33,10 +41,17 @@ fn sum_of_bytes(plan: &[u8], count: usize) -> u64 {
         if count <= place {
             return sum;
         }
-        sum = with_number(sum, plan[place] as u64);
+        sum = with_byte(sum, plan[place]);
         place += 1;
     }
     sum
+}
+
+// How many places so many rows of so many queues have.
+fn places(rows: u32, queues: u32) -> usize
+    ensures { λ r. ⌜ r ≤ 4294967295 * 4294967295 ⌝ }
+{
+    rows as usize * queues as usize
 }
 
 fn print_field(name: &[u8], number: u64) {
@@ -71,7 +86,7 @@ fn plan_file(path: &[u8], values: &mut [u64], plan: &mut [u8]) {
     }
     let sheet = read.sheet;
     let answer = planner::plan(sheet, values, plan);
-    let bytes = sheet.horizon as usize * answer.queues as usize;
+    let bytes = places(sheet.horizon, answer.queues);
     let all = sum_of_values(values, bytes + answer.queues as usize);
     print_line(
         answer.number,
@@ -82,14 +97,21 @@ fn plan_file(path: &[u8], values: &mut [u64], plan: &mut [u8]) {
     );
 }
 
+// Every file that is named.
+fn plan_files(values: &mut [u64], plan: &mut [u8]) {
+    let mut path = [0u8; 64];
+    let count = os::arg_count();
+    let mut k = 1;
+    while k < count {
+        let length = os::arg(k, &mut path);
+        plan_file(&path[..length], values, plan);
+        k += 1;
+    }
+}
+
+// The buffers have room for the largest plan that is named here: 13 rows of 62,832 values, 12 of as many bytes.
 fn main() {
     let mut values = [0u64; 816816];
     let mut plan = [0u8; 753984];
-    let mut path = [0u8; 64];
-    let mut k = 1;
-    while k < os::arg_count() {
-        let length = os::arg(k, &mut path);
-        plan_file(&path[..length], &mut values, &mut plan);
-        k += 1;
-    }
+    plan_files(&mut values, &mut plan);
 }
