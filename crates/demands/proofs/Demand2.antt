@@ -2,8 +2,8 @@
 -- each slot and each bearable queue the value's place says the least scaled energy over all good ways, none exactly where no way is good,
 -- and the plan byte is the slowest speed that begins a least way.
 use Prim.Native.Nat.{ℕ, zero, suc, _-_, _≤_, _<_}
-use mathlib.Core.Path.{_≡_, sym, ap, _∙_, subst}
-use mathlib.Core.List.{List, []}
+use mathlib.Core.Path.{_≡_, sym, ap, subst}
+use mathlib.Core.List.{List}
 use mathlib.Core.Logic.{⊎-elim, _↔_}
 use mathlib.Core.Option.{Option, none}
 use native.Mathlib.Nat.{eq-or-lt-of-le, not-suc-le-zero}
@@ -14,7 +14,7 @@ use Rattle.process.proofs.Definite.{value-unique}
 use Rattle.model.specs.Counted.{counted, weightAt, M}
 use Rattle.model.specs.Plan.{processOf, IsValueAt, IsPlanByte, valueIn, queueAt, placeAt, planRefusal, Filled, LeavesBy}
 use Rattle.model.specs.Plan as model-plan
-use Rattle.model.specs.Queue.{Queue, bearable, queueCount, numberOf, bearableQueues}
+use Rattle.model.specs.Queue.{Queue, bearable, numberOf}
 use Rattle.model.specs.Refusal.{N}
 use Rattle.model.specs.declared.Sheet.{Sheet}
 use Rattle.model.proofs.Queues.{number-below, number-place}
@@ -47,13 +47,11 @@ module _ {sheet : Sheet} {values₀ plan₀ values bytes : List ℕ} {a : PlanAn
   -- its number is below N
   below : numberOf (M (counted sheet)) w < N (counted sheet)
   unfolding N
-  below = subst (λ (D : ℕ). numberOf (M (counted sheet)) w < queueCount (M (counted sheet)) D) positions (number-below (M (counted sheet)) w is-bearable)
+  below = number-below (M (counted sheet)) w positions is-bearable
 
   -- and this queue is the one of that number
   here : queueAt (counted sheet) (numberOf (M (counted sheet)) w) ≡ w
-  here =
-      ap (λ (D : ℕ). getD (bearableQueues (M (counted sheet)) D) (numberOf (M (counted sheet)) w) []) (sym positions) ∙
-      number-place (M (counted sheet)) w is-bearable
+  here = number-place (M (counted sheet)) w positions is-bearable
 
   -- the value's place says the least scaled energy over all good ways from this slot and queue, or none
   pub value-right : (t : ℕ) → t ≤ sheet .horizon → IsValueAt (counted sheet) t w (valueIn values (place t))

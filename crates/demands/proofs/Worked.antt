@@ -2,32 +2,21 @@
 -- answers, by its actual contract, for every sheet in memory with that view and any lent memory with room.
 use Prim.Native.Nat.{ℕ, zero, suc, _+_, _*_, _≤_, _<_}
 use mathlib.Core.Path.{_≡_, refl, sym, ap, _∙_, subst}
-use mathlib.Core.Bool.{_&&_}
 use mathlib.Core.List.{List, [], _∷_}
 use native.Mathlib.Omega.{arith}
-use lib.Dec.{leb, le→leb}
 use lib.ListN.{length, getD}
 use Rattle.model.specs.Cases.{A, A0, A1, hopeless, none64, Case, planned, numbers, Holds, AllHold, cases, casesP}
 use Rattle.model.specs.Counted.{Counted, counted}
-use Rattle.model.specs.Plan.{valueIn, placeAt, valuesNeeded, planNeeded, planRefusal, PlanAnswer, FromEmpty, Filled, LeavesBy, Leaves}
+use Rattle.model.specs.Plan.{valueIn, placeAt, PlanAnswer, FromEmpty, Filled, LeavesBy, Leaves}
 use Rattle.model.specs.Refusal.{N, sheetRefusal}
-use Rattle.model.specs.Tests.{check, _then_}
 use Rattle.model.specs.declared.Sheet.{Sheet}
 use Rattle.model.proofs.Cases.{cases-hold}
 use Rattle.model.proofs.Leaves.{decoded-same, decided-same, answer-same}
-use Rattle.model.proofs.Tests.{and-both, check-passes}
+use Rattle.planner.proofs.Judged.{row-fits, plan-fits}
 use Rattle.planner.specs.declared.calls.PlanAnswer as code
 use Rattle.demands.specs.Calls.{Plans}
 use Rattle.demands.proofs.Demand2.{answered}
 use Rattle.demands.proofs.Determined.{plan-is}
-
--- with room for both tables an accepted sheet is not refused
-room-passes : (s : Counted) (values plan : ℕ) → sheetRefusal s ≡ 0 → valuesNeeded s ≤ values → planNeeded s ≤ plan → planRefusal s values plan ≡ 0
-unfolding planRefusal
-room-passes s values plan e h k =
-    ap (λ (n : ℕ). n then check (leb (valuesNeeded s) values && leb (planNeeded s) plan) 11) e ∙
-    check-passes (leb (valuesNeeded s) values && leb (planNeeded s) plan) 11
-    (and-both (leb (valuesNeeded s) values) (leb (planNeeded s) plan) (le→leb (valuesNeeded s) values h) (le→leb (planNeeded s) plan k))
 
 -- a case of the list that holds, by its place
 
@@ -49,9 +38,9 @@ module _ {sheet : Sheet} {values₀ plan₀ values bytes : List ℕ} {a : code.P
   filled : Filled valueIn s values₀ plan₀ values bytes (answered a)
   filled =
       subst (λ (number : ℕ). LeavesBy number valueIn s values₀ plan₀ values bytes (answered a))
-      (room-passes s (length values₀) (length plan₀) accepted
-      (subst (λ (m : ℕ). suc (s .horizon) * m ≤ length values₀) (sym many) values-room)
-      (subst (λ (m : ℕ). s .horizon * m ≤ length plan₀) (sym many) plan-room))
+      (sym (plan-fits s (length values₀) (length plan₀)
+      (sym (row-fits s (length plan₀) accepted (subst (λ (m : ℕ). s .horizon * m ≤ length plan₀) (sym many) plan-room)))
+      (subst (λ (m : ℕ). suc (s .horizon) * m ≤ length values₀) (sym many) values-room)))
       (subst (λ (z : Counted). Leaves valueIn z values₀ plan₀ values bytes (answered a)) view (plan-is call))
 
   -- where a row of values and one of plan bytes are right for a slot, these rows are left

@@ -228,13 +228,13 @@ unfolding numberOf queueCount bearableQueues
 bearable-found M w t =
     place-found w (continuations M (length w) 0 0) (continuations-in M 0 0 0 w (omega arith) (bearable-goes-on M w t))
 
--- the number of a bearable queue is below N
-pub number-below : (M : ℕ) (w : Queue) → T (bearable M w) → numberOf M w < queueCount M (length w)
-number-below M w t = bearable-found M w t .0
+-- the number of a bearable queue of D positions is below N
+pub number-below : (M : ℕ) (w : Queue) {D : ℕ} → length w ≡ D → T (bearable M w) → numberOf M w < queueCount M D
+number-below M w long t = subst (λ (D : ℕ). numberOf M w < queueCount M D) long (bearable-found M w t .0)
 
--- every bearable queue stands in the list, at its number
-pub number-place : (M : ℕ) (w : Queue) → T (bearable M w) → getD (bearableQueues M (length w)) (numberOf M w) [] ≡ w
-number-place M w t = bearable-found M w t .1
+-- every bearable queue of D positions stands in the list, at its number
+pub number-place : (M : ℕ) (w : Queue) {D : ℕ} → length w ≡ D → T (bearable M w) → getD (bearableQueues M D) (numberOf M w) [] ≡ w
+number-place M w long t = subst (λ (D : ℕ). getD (bearableQueues M D) (numberOf M w) [] ≡ w) long (bearable-found M w t .1)
 
 -- dictionary order
 
@@ -338,7 +338,7 @@ pub number-rises : (M : ℕ) (v w : Queue) → T (bearable M v) → T (bearable 
 number-rises M v w a b e l = go (ltb (numberOf M v) (numberOf M w)) refl
   where
     at-v : getD (bearableQueues M (length w)) (numberOf M v) [] ≡ v
-    at-v = ap (λ (D : ℕ). getD (bearableQueues M D) (numberOf M v) []) (sym e) ∙ number-place M v a
+    at-v = number-place M v e a
 
     go : (t : Bool) → ltb (numberOf M v) (numberOf M w) ≡ t → numberOf M v < numberOf M w
     go true h = ltb-true (numberOf M v) (numberOf M w) h
@@ -346,14 +346,14 @@ number-rises M v w a b e l = go (ltb (numberOf M v) (numberOf M w)) refl
       where
         same : numberOf M w ≡ numberOf M v → numberOf M v < numberOf M w
         same d =
-            let one : w ≡ v = sym (number-place M w b) ∙ ap (λ (i : ℕ). getD (bearableQueues M (length w)) i []) d ∙ at-v in
+            let one : w ≡ v = sym (number-place M w refl b) ∙ ap (λ (i : ℕ). getD (bearableQueues M (length w)) i []) d ∙ at-v in
             absurd (before-irreflexive v (subst (λ (q : Queue). before v q) one l))
 
         later : numberOf M w < numberOf M v → numberOf M v < numberOf M w
         later k =
-            let below = subst (λ (D : ℕ). numberOf M v < queueCount M D) e (number-below M v a) in
+            let below = number-below M v e a in
             let back = list-rises M (length w) (numberOf M w) (numberOf M v) k below in
-            absurd (before-asymmetric v w l (subst₂ before (number-place M w b) at-v back))
+            absurd (before-asymmetric v w l (subst₂ before (number-place M w refl b) at-v back))
 
 -- the empty queue
 

@@ -2,18 +2,16 @@
 -- finds there, and that the rows behind it stay as they are while it fills its own. The proofs of src/rows.rt stand on these laws.
 use Prim.Native.Nat.{ℕ, zero, suc, pred, _+_, _*_, _-_, _^_, _≤_, _<_}
 use mathlib.Core.Path.{_≡_, refl, sym, ap, _∙_, subst}
-use mathlib.Core.Bool.{Bool, true, false}
 use mathlib.Core.List.{List}
 use mathlib.Core.Logic.{inr, ⊎-elim}
 use mathlib.Core.Option.{Option, some}
 use native.Mathlib.Nat.{add-mul, mul-le-mul-right, one-mul, suc-mul, eq-or-lt-of-le, pow-succ'}
 use native.Mathlib.Omega.{arith}
-use lib.Dec.{T}
 use lib.ListN.{length, getD}
-use Rattle.process.specs.Recursion.{plus, times, only, value}
+use Rattle.process.specs.Recursion.{plus, times}
 use Rattle.model.specs.Counted.{Counted, W, M}
-use Rattle.model.specs.Plan.{processOf, queueAt, placeAt, valuesNeeded, planNeeded}
-use Rattle.model.specs.Queue.{bearable, queueCount}
+use Rattle.model.specs.Plan.{queueAt, placeAt, valuesNeeded, planNeeded}
+use Rattle.model.specs.Queue.{queueCount}
 use Rattle.model.specs.Refusal.{N}
 use Rattle.model.proofs.Queues.{listed-bearable}
 use Rattle.model.proofs.Refusal.{Accepted, M-low, M-high}
@@ -26,6 +24,7 @@ use Rattle.value.proofs.Filling.{read-local, number-local, fills-outside}
 use Rattle.planner.specs.Passes.{valueWith, choiceWith, aheadOf, queueAfter, byteOf, ValueRow, AheadRow, InPlan, Planned, PlannedFrom}
 use Rattle.planner.specs.declared.sizes.Slot.{Slot}
 use Rattle.planner.proofs.Fits.{scale-fits}
+use Rattle.planner.proofs.Found.{value-last}
 
 -- of an accepted sheet
 
@@ -195,14 +194,10 @@ ahead-stands s k after e room filled =
 
 -- the end row
 
--- with no slot left every queue has a value, 0
-pub value-last : (s : Counted) (i : ℕ) → i < N s → valueWith s 0 (queueAt s i) ≡ some 0
-unfolding valueWith value processOf N
-value-last s i h = go (bearable (M s) (queueAt s i)) (listed-bearable (M s) (s .bound) i h .1)
-  where
-    go : (b : Bool) → T b → only b (some 0) ≡ some 0
-    go true t = refl
-    go false t = absurd t
+-- with no slot left every queue of the list has a value, 0
+row-last : (s : Counted) (i : ℕ) → i < N s → valueWith s 0 (queueAt s i) ≡ some 0
+unfolding N
+row-last s i h = value-last s (queueAt s i) (listed-bearable (M s) (s .bound) i h .1)
 
 module _ (s : Counted) (queues from : ℕ) (e : queues ≡ N s) (d : from ≡ s .horizon * queues + 0) where
   -- it begins behind the rows of all slots
@@ -231,7 +226,7 @@ module _ (s : Counted) (queues from : ℕ) (e : queues ≡ N s) (d : from ≡ s 
             let place : from + i ≡ placeAt s t i = omega (arith, end-place, ap (λ (x : ℕ). x * N s) here) in
             let none : 0 ≡ s .horizon - t = omega arith in
             subst (λ (p : ℕ). readAt width values p ≡ valueWith s (s .horizon - t) (queueAt s i)) place
-            (filled .filled i (omega arith) ∙ sym (value-last s i h) ∙ ap (λ (k : ℕ). valueWith s k (queueAt s i)) none)
+            (filled .filled i (omega arith) ∙ sym (row-last s i h) ∙ ap (λ (k : ℕ). valueWith s k (queueAt s i)) none)
 
     -- what is planned from there on is planned from before it was filled on
     pub planned-since : (k : ℕ) {plan₀ values′ plan′ : List ℕ} → PlannedFrom s k values plan₀ values′ plan′ → PlannedFrom s k values₀ plan₀ values′ plan′

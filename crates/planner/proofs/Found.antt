@@ -33,9 +33,24 @@ use Rattle.planner.specs.Passes.{valueWith, choiceWith, aheadTo, queueAf
 use Rattle.planner.specs.declared.sizes.Sizes.{Sizes}
 use Rattle.planner.specs.declared.sizes.Slot.{Slot}
 
--- what a row says of a queue
+-- what a bearable queue is worth, and what a row says of a queue
+
+-- what is there only where a test passes, where it passes
+only-passed : (b : Bool) (r : Option ℕ) → T b → only b r ≡ r
+only-passed true r t = refl
+only-passed false r t = absurd t
 
 module _ (s : Counted) where
+  -- with no slot left a bearable queue has a value, 0
+  pub value-last : (w : Queue) → T (bearable (M s) w) → valueWith s 0 w ≡ some 0
+  unfolding valueWith value processOf
+  value-last w t = only-passed (bearable (M s) w) (some 0) t
+
+  -- else its value is what the least over the speeds is worth
+  pub value-chosen : (k : ℕ) (w : Queue) → T (bearable (M s) w) → valueWith s (suc k) w ≡ worth (choiceWith s k w)
+  unfolding valueWith choiceWith value processOf
+  value-chosen k w t = only-passed (bearable (M s) w) (worth (choiceWith s k w)) t
+
   -- a queue that is not bearable has no value
   pub not-bearable-none : (k : ℕ) (w : Queue) → bearable (M s) w ≡ false → valueWith s k w ≡ none
   unfolding valueWith choiceWith value processOf
@@ -51,9 +66,7 @@ module _ (s : Counted) where
       go : (b : Bool) → bearable (M s) w ≡ b → only b (readAt width l (from + numberOf (M s) w)) ≡ valueWith s k w
       go true e =
           let t : T (bearable (M s) w) = subst T (sym e) tt in
-          row .right (numberOf (M s) w) (subst (λ (D : ℕ). numberOf (M s) w < queueCount (M s) D) long (number-below (M s) w t)) ∙
-          ap (valueWith s k)
-          (ap (λ (D : ℕ). getD (bearableQueues (M s) D) (numberOf (M s) w) []) (sym long) ∙ number-place (M s) w t)
+          row .right (numberOf (M s) w) (number-below (M s) w long t) ∙ ap (valueWith s k) (number-place (M s) w long t)
       go false e = sym (not-bearable-none k w e)
 
 -- of a queue that is not bearable a row says none

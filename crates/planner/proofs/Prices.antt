@@ -13,7 +13,7 @@ use lib.Dec.{T, leb, ltb}
 use lib.ListN.{length, getD, set, replicate}
 use lib.Seq.{take-take, take-append-le}
 use Rattle.process.specs.Recursion.{plus, times, sumOrNone, only, Choice, nothing, chosen, choose, cheaper, better}
-use Rattle.process.specs.Recursion.{best, worth, priced, choice, value}
+use Rattle.process.specs.Recursion.{best, priced, choice}
 use Rattle.process.specs.Ways.{Among}
 use Rattle.process.proofs.Value.{Found, best-found}
 use Rattle.model.specs.Counted.{Counted, zeroSpeed, speedAt, energyAt, weightAt, sizeAt, deadlineAt, speedsOf, energyOf, W, M}
@@ -35,13 +35,13 @@ use Rattle.queues.proofs.Slots.{run-kept, run-bearable, arrive-not-bearable}
 use Rattle.value.specs.Fills.{Fills, numberAt}
 use Rattle.value.specs.Width.{readAt, Below, lessThan}
 use Rattle.value.specs.Narrow.{width, valueOf}
-use Rattle.value.proofs.Filling.{read-local, number-local, fills-none, fills-more, fills-whole, number-stored}
+use Rattle.value.proofs.Filling.{read-local, number-local, fills-none, fills-more, number-stored}
 use Rattle.planner.specs.Passes.{valueWith, choiceWith, aheadTo, aheadOf, valueInRow, AheadRow, priceIn}
-use Rattle.planner.specs.Passes.{byteOf, IsChoice, IsBetter, Ready, Planned}
+use Rattle.planner.specs.Passes.{byteOf, IsChoice, IsBetter, Ready, PlannedTo, Planned}
 use Rattle.planner.specs.declared.sizes.Sizes.{Sizes}
 use Rattle.planner.specs.declared.sizes.Slot.{Slot}
 use Rattle.planner.proofs.Fits.{price-fits}
-use Rattle.planner.proofs.Found.{not-bearable-none, one-fewer, sized-ranges, sized-bound, sized-queues, sized-after}
+use Rattle.planner.proofs.Found.{value-chosen, not-bearable-none, one-fewer, sized-ranges, sized-bound, sized-queues, sized-after}
 
 -- what is ahead after a slot
 
@@ -93,10 +93,8 @@ module _ (s : Counted) (a : Accepted s) where
       go : (b : Bool) → bearable (M s) before ≡ b → only b (readAt width l (0 + numberOf (M s) before)) ≡ aheadOf s k (run w speed)
       go true e =
           let u : T (bearable (M s) before) = subst T (sym e) tt in
-          row .right (numberOf (M s) before)
-          (subst (λ (D : ℕ). numberOf (M s) before < queueCount (M s) D) shorter (number-below (M s) before u)) ∙
-          ap (λ (v : Queue). aheadOf s k (kept v))
-          (ap (λ (D : ℕ). getD (bearableQueues (M s) D) (numberOf (M s) before) []) (sym shorter) ∙ number-place (M s) before u) ∙
+          row .right (numberOf (M s) before) (number-below (M s) before shorter u) ∙
+          ap (λ (v : Queue). aheadOf s k (kept v)) (number-place (M s) before shorter u) ∙
           ap (aheadOf s k) (sym (run-kept w speed (pred (s .bound)) whole h))
       go false e =
           sym
@@ -234,15 +232,6 @@ module _ (s : Counted) (k : ℕ) (w : Queue) where
   least-whole j {speed = speed} {r = r} all i =
       subst (λ (n : ℕ). IsChoice (leastOf s k w n) speed r) (all ∙ sym (length-listed (speedAt s) (s .speedCount))) i
 
--- the value of a bearable queue is what the least is worth
-value-chosen : (s : Counted) (k : ℕ) (w : Queue) → T (bearable (M s) w) → worth (choiceWith s k w) ≡ valueWith s (suc k) w
-unfolding valueWith choiceWith value processOf
-value-chosen s k w t = go (bearable (M s) w) t
-  where
-    go : (b : Bool) → T b → worth (choiceWith s k w) ≡ only b (worth (choiceWith s k w))
-    go true t = refl
-    go false t = absurd t
-
 -- a choice as the code keeps it has a speed that fits a byte: 255, or one of the sheet's
 byte-small : (s : Counted) → Ranged s → (k : ℕ) (w : Queue) → byteOf (choiceWith s k w) ≤ 255
 unfolding choiceWith choice processOf
@@ -256,40 +245,30 @@ byte-small s r k w = go (choiceWith s k w) (best-found (costOf s k w) (speedsOf 
 
 -- the rows of a slot
 
--- how far they are filled: the values and the plan bytes of the first n queues
-pub record FilledTo (s : Counted) (slot : Slot) (n : ℕ) (values₀ plan₀ values plan : List ℕ) : Type 0 where
-  pub values-filled :
-      Fills (width .places) (readAt width) (λ i. valueWith s (suc (slot .left)) (queueAt s i)) (slot .this) n values₀ values
-  pub plan-filled : Fills 1 numberAt (λ i. byteOf (choiceWith s (slot .left) (queueAt s i))) (slot .row) n plan₀ plan
-
 module _ (s : Counted) (slot : Slot) (values₀ plan₀ : List ℕ) where
   -- nothing is filled
-  pub filled-none : FilledTo s slot 0 values₀ plan₀ values₀ plan₀
+  pub filled-none : PlannedTo s slot 0 values₀ plan₀ values₀ plan₀
   filled-none = record { values-filled = fills-none _ _ _ _ values₀; plan-filled = fills-none _ _ _ _ plan₀ }
 
   -- one queue more
   pub filled-more : {n speed : ℕ} {r : Option ℕ} {values values′ plan : List ℕ} → T (bearable (M s) (queueAt s n)) →
-      IsChoice (choiceWith s (slot .left) (queueAt s n)) speed r → FilledTo s slot n values₀ plan₀ values plan →
+      IsChoice (choiceWith s (slot .left) (queueAt s n)) speed r → PlannedTo s slot n values₀ plan₀ values plan →
       Fills (width .places) (readAt width) (λ i. r) (slot .this + n) 1 values values′ → slot .row + n < length plan →
-      FilledTo s slot (n + 1) values₀ plan₀ values′ (set plan (slot .row + n) speed)
+      PlannedTo s slot (n + 1) values₀ plan₀ values′ (set plan (slot .row + n) speed)
   filled-more {n = n} {speed = speed} {plan = plan} t here so-far stored h =
       record {
         values-filled =
             fills-more (width .places) (readAt width) (read-local width) refl
-            (here .value-is ∙ value-chosen s (slot .left) (queueAt s n) t) (so-far .values-filled) stored;
+            (here .value-is ∙ sym (value-chosen s (slot .left) (queueAt s n) t)) (so-far .values-filled) stored;
         plan-filled =
             fills-more 1 numberAt number-local refl (here .speed-is) (so-far .plan-filled)
             (number-stored plan (slot .row + n) speed h);
       }
 
   -- all of them
-  pub filled-whole : {n : ℕ} {values plan : List ℕ} → n ≡ N s → FilledTo s slot n values₀ plan₀ values plan →
+  pub filled-whole : {n : ℕ} {values plan : List ℕ} → n ≡ N s → PlannedTo s slot n values₀ plan₀ values plan →
       Planned s slot values₀ plan₀ values plan
-  filled-whole e f =
-      record {
-        values-filled = fills-whole (width .places) (readAt width) (f .values-filled) e;
-        plan-filled = fills-whole 1 numberAt (f .plan-filled) e;
-      }
+  filled-whole {values = values} {plan = plan} e f = subst (λ (m : ℕ). PlannedTo s slot m values₀ plan₀ values plan) e f
 
 -- what a pass is given, told to what it calls
 

@@ -2,7 +2,6 @@
 -- are the plan's speeds, and memory that is planned from the horizon back to slot 0 is filled as the model says.
 use Prim.Native.Nat.{ℕ, zero, suc, pred, _+_, _-_, _≤_, _<_}
 use mathlib.Core.Path.{_≡_, refl, sym, ap, _∙_, subst}
-use mathlib.Core.Bool.{Bool, true, false}
 use mathlib.Core.List.{List}
 use mathlib.Core.Option.{Option, Option·getD}
 use native.Mathlib.Nat.{mul-one, not-suc-le-zero}
@@ -11,7 +10,7 @@ use lib.Dec.{T}
 use lib.ListN.{length, getD, drop, length-drop}
 use lib.Seq.{ext-getD, getD-drop}
 use Rattle.process.proofs.Value.{value-is, first-is}
-use Rattle.process.specs.Recursion.{only, Choice, nothing, chosen, worth, actionOf, value, plan}
+use Rattle.process.specs.Recursion.{Choice, nothing, chosen, worth, actionOf, plan}
 use Rattle.process.specs.Ways.{IsValue, IsFirst}
 use Rattle.model.proofs.Queues.{listed-bearable, empty-first}
 use Rattle.model.proofs.Refusal.{Accepted, speeds-rise, N-low}
@@ -23,6 +22,7 @@ use Rattle.value.proofs.OnePlace.{read-is}
 use Rattle.value.specs.Narrow.{width}
 use Rattle.value.specs.Width.{readAt}
 use Rattle.planner.specs.Passes.{valueWith, choiceWith, byteOf, PlannedFrom}
+use Rattle.planner.proofs.Found.{value-chosen}
 
 -- the planner reads a value as the model does: the code of none is the same
 pub read-value-in : (l : List ℕ) (i : ℕ) → readAt width l i ≡ valueIn l i
@@ -34,11 +34,6 @@ drop-same n l m long same =
     ext-getD 0 (drop n l) (drop n m) (length-drop n l ∙ ap (λ (k : ℕ). k - n) long ∙ sym (length-drop n m))
     (λ i h. getD-drop n l i 0 ∙ same (n + i) (omega arith) ∙ sym (getD-drop n m i 0))
 
--- what is there only where a test passes, where it passes
-only-passed : (b : Bool) (r : Option ℕ) → T b → only b r ≡ r
-only-passed true r t = refl
-only-passed false r t = absurd t
-
 module _ (s : Counted) (a : Accepted s) where
   -- the recursion's value is the least scaled energy of a good way, or none where no way is good
   pub value-right : (k : ℕ) (w : Queue) → IsValue (processOf s) (s .jobCount) (weightAt s) k w (valueWith s k w)
@@ -47,9 +42,8 @@ module _ (s : Counted) (a : Accepted s) where
 
   -- with slots left, in a bearable queue, it is what the recursion's choice costs
   value-worth : (k : ℕ) (w : Queue) → 1 ≤ k → T (bearable (M s) w) → valueWith s k w ≡ worth (choiceWith s (pred k) w)
-  unfolding valueWith choiceWith value processOf
   value-worth zero w h b = absurd (not-suc-le-zero h)
-  value-worth (suc k) w h b = only-passed (bearable (M s) w) _ b
+  value-worth (suc k) w h b = value-chosen s k w b
 
   -- and the speed of that choice is the smallest first speed of a least good way
   first-right : (k : ℕ) (w : Queue) (speed v : ℕ) → 1 ≤ k → T (bearable (M s) w) → choiceWith s (pred k) w ≡ chosen speed v →

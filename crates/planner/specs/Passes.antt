@@ -100,10 +100,14 @@ pub record Ready (counts : List ℕ) (s : Counted) (sizes : Sizes) (slot : Slot)
   pub prepared : Prepared counts s sizes
   pub in-plan : InPlan s slot
 
--- what a slot leaves in the values and in the plan: its row in each
-pub record Planned (s : Counted) (slot : Slot) (values₀ plan₀ values plan : List ℕ) : Type 0 where
-  pub values-filled : Fills (width .places) (readAt width) (λ i. valueWith s (suc (slot .left)) (queueAt s i)) (slot .this) (N s) values₀ values
-  pub plan-filled : Fills 1 numberAt (λ i. byteOf (choiceWith s (slot .left) (queueAt s i))) (slot .row) (N s) plan₀ plan
+-- how far a slot is planned: in its row of the values and in its row of the plan, the first n queues
+pub record PlannedTo (s : Counted) (slot : Slot) (n : ℕ) (values₀ plan₀ values plan : List ℕ) : Type 0 where
+  pub values-filled : Fills (width .places) (readAt width) (λ i. valueWith s (suc (slot .left)) (queueAt s i)) (slot .this) n values₀ values
+  pub plan-filled : Fills 1 numberAt (λ i. byteOf (choiceWith s (slot .left) (queueAt s i))) (slot .row) n plan₀ plan
+
+-- what a slot leaves: every queue
+abbrev pub Planned : Counted → Slot → (values₀ plan₀ values plan : List ℕ) → Type 0
+Planned s slot values₀ plan₀ values plan = PlannedTo s slot (N s) values₀ plan₀ values plan
 
 -- how far the lent memory is planned: the last k slots and the end row. What lies behind both tables is what was lent
 pub record PlannedFrom (s : Counted) (k : ℕ) (values₀ plan₀ values plan : List ℕ) : Type 0 where

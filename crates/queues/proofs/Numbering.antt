@@ -125,7 +125,7 @@ number-sum M w t =
 -- what comes before it at the first positions alone is no more than its number, and so below N
 pub sum-below : (M : ℕ) (w : Queue) → T (bearable M w) → (u : ℕ) → u ≤ length w → sum (earlierAt M w) u < queueCount M (length w)
 sum-below M w t u h =
-    omega (arith, number-below M w t, number-sum M w t, sum-more (earlierAt M w) u (length w) h)
+    omega (arith, number-below M w refl t, number-sum M w t, sum-more (earlierAt M w) u (length w) h)
 
 -- one position of a queue that stands in the first D of six places
 

@@ -19,14 +19,11 @@ module _ (M D : ℕ) (places : List ℕ) (six : length places ≡ 6) (n : Number
 
   -- its number is below N
   pub number-in-below : numberOf M (queueIn D places) < queueCount M D
-  number-in-below =
-      subst (λ (k : ℕ). numberOf M (queueIn D places) < queueCount M k) long (number-below M (queueIn D places) (n .is-bearable))
+  number-in-below = number-below M (queueIn D places) long (n .is-bearable)
 
   -- the queue of its number is this queue
   pub queue-of-number : getD (bearableQueues M D) (numberOf M (queueIn D places)) [] ≡ queueIn D places
-  queue-of-number =
-      ap (λ (k : ℕ). getD (bearableQueues M k) (numberOf M (queueIn D places)) []) (sym long) ∙
-      number-place M (queueIn D places) (n .is-bearable)
+  queue-of-number = number-place M (queueIn D places) long (n .is-bearable)
 
   -- and so it stands in these places, where the unused ones are zero
   pub places-of-number : ((i : ℕ) → D ≤ i → i < 6 → getD places i 0 ≡ 0) →

@@ -9,7 +9,11 @@ use native.Mathlib.Omega.{arith}
 use lib.ListN.{length, getD, set, length-set}
 use lib.Seq.{getD-set-same, getD-set-other}
 use Rattle.value.specs.Width.{Width, numberFrom, decode, readAt}
-use Rattle.value.specs.Fills.{Local, numberAt, Fills}
+use Rattle.value.specs.Fills.{numberAt, Fills}
+
+-- a reader of things that stand in so many places each: what stands at place i depends on those places alone
+abbrev pub Local : {A : Type 0} → ℕ → (List ℕ → ℕ → A) → Type 0
+Local places reader = (l m : List ℕ) (i : ℕ) → ((p : ℕ) → i * places ≤ p → p < suc i * places → getD l p 0 ≡ getD m p 0) → reader l i ≡ reader m i
 
 -- what stands in n places depends on those alone
 numbers-same : (l m : List ℕ) (at n : ℕ) → ((p : ℕ) → at ≤ p → p < at + n → getD l p 0 ≡ getD m p 0) → numberFrom l at n ≡ numberFrom m at n

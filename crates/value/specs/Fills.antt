@@ -1,14 +1,10 @@
 -- What a call leaves in a lent buffer that it fills from a place on. The buffer may hold values, or plain numbers such as plan bytes: a
 -- reader says what stands at a place, and how many places of the buffer it looks at.
-use Prim.Native.Nat.{ℕ, suc, _+_, _*_, _≤_, _<_}
+use Prim.Native.Nat.{ℕ, _+_, _*_, _≤_, _<_}
 use mathlib.Core.Path.{_≡_}
 use mathlib.Core.List.{List}
 use mathlib.Core.Logic.{_⊎_}
 use lib.ListN.{length, getD}
-
--- a reader of things that stand in so many places each: what stands at place i depends on those places alone
-abbrev pub Local : {A : Type 0} → ℕ → (List ℕ → ℕ → A) → Type 0
-Local places reader = (l m : List ℕ) (i : ℕ) → ((p : ℕ) → i * places ≤ p → p < suc i * places → getD l p 0 ≡ getD m p 0) → reader l i ≡ reader m i
 
 -- a plain number at each place
 abbrev pub numberAt : List ℕ → ℕ → ℕ

@@ -2,14 +2,15 @@
 use Prim.Native.Nat.{_≤_, _-_}
 use native.Mathlib.Omega.{arith}
 use Rattle.model.specs.Counted.{counted}
-use Rattle.planner.proofs.Prices.{FilledTo, filled-none, filled-more, filled-whole}
+use Rattle.planner.specs.Passes.{PlannedTo}
+use Rattle.planner.proofs.Prices.{filled-none, filled-more, filled-whole}
 use Rattle.planner.proofs.Prices.{ready-ranges, number-low, queue-bearable, choose-asked, choose-told, speed-fits}
 use Rattle.planner.proofs.choose.fill_row.Statement.{statement}
 use Rattle.planner.proofs.choose.fill_row.Tie as tie
 
 abbrev Inv-loop : tie.InvT-loop
 Inv-loop counts sheet sizes slot ahead values₀ plan₀ number₀ values plan number =
-    (number ≤ sizes .queues) × FilledTo (counted sheet) slot number values₀ plan₀ values plan
+    (number ≤ sizes .queues) × PlannedTo (counted sheet) slot number values₀ plan₀ values plan
 
 abbrev μ-loop : tie.MeasureT-loop
 μ-loop counts sheet sizes slot ahead values₀ plan₀ number₀ values plan number = sizes .queues - number
