@@ -33,7 +33,8 @@ pub fn value_in_row(
     from: usize,
     queue: [u32; 6],
 ) -> Value
-    requires { ⌜ HoldsCounts (now counts) × Ranges largest bound × ((from + queueCount largest bound) * width .places ≤ length (now buffer)) ⌝ }
+    requires { ⌜ HoldsCounts (now counts) × Ranges largest bound ×
+        ((from + queueCount largest bound) * width .places ≤ length (now buffer)) ⌝ }
     ensures { λ r. ⌜ valueOf r ≡ valueInRow largest (now (buffer .entry)) from (queueIn bound queue) ⌝ }
 {
     if !finishable(largest, bound, queue) {
@@ -51,8 +52,11 @@ fn value_with(
     queue: [u32; 6],
     one: Job,
 ) -> Value
-    requires { ⌜ HoldsCounts (now counts) × Ranges (sizes .largest) (sizes .bound) × (one .size ≤ 255) × Small (queueIn (sizes .bound) queue) × ((next + queueCount (sizes .largest) (sizes .bound)) * width .places ≤ length (now values)) ⌝ }
-    ensures { λ r. ⌜ valueOf r ≡ valueInRow (sizes .largest) (now (values .entry)) next (arrive (queueIn (sizes .bound) queue) (one .size) (one .deadline)) ⌝ }
+    requires { ⌜ HoldsCounts (now counts) × Ranges (sizes .largest) (sizes .bound) × (one .size ≤ 255) ×
+        Small (queueIn (sizes .bound) queue) ×
+        ((next + queueCount (sizes .largest) (sizes .bound)) * width .places ≤ length (now values)) ⌝ }
+    ensures { λ r. ⌜ valueOf r ≡
+        valueInRow (sizes .largest) (now (values .entry)) next (arrive (queueIn (sizes .bound) queue) (one .size) (one .deadline)) ⌝ }
 {
     let joined = arrive(sizes.bound, queue, one.size, one.deadline);
     value_in_row(counts, sizes.largest, sizes.bound, values, next, joined)
@@ -67,7 +71,8 @@ fn sum_ahead(
     values: &[u64],
     queue: [u32; 6],
 ) -> Value
-    requires { ⌜ Ready (now counts) (counted sheet) sizes slot × ValueRow (counted sheet) (slot .left) (slot .next) (now values) × Small (queueIn (sizes .bound) queue) ⌝ }
+    requires { ⌜ Ready (now counts) (counted sheet) sizes slot × ValueRow (counted sheet) (slot .left) (slot .next) (now values) ×
+        Small (queueIn (sizes .bound) queue) ⌝ }
     ensures { λ r. ⌜ valueOf r ≡ aheadOf (counted sheet) (slot .left) (queueIn (sizes .bound) queue) ⌝ }
 {
     let mut sum = value::of(0);
@@ -83,7 +88,8 @@ fn sum_ahead(
 
 // The queue after a slot with this number among those of one position fewer: its last total stands once more.
 fn queue_after(counts: &[u32; 2352], sizes: Sizes, number: usize) -> [u32; 6]
-    requires { ⌜ HoldsCounts (now counts) × Ranges (sizes .largest) (sizes .bound) × (1 ≤ sizes .bound) × (number < queueCount (sizes .largest) (pred (sizes .bound))) ⌝ }
+    requires { ⌜ HoldsCounts (now counts) × Ranges (sizes .largest) (sizes .bound) × (1 ≤ sizes .bound) ×
+        (number < queueCount (sizes .largest) (pred (sizes .bound))) ⌝ }
     ensures { λ r. ⌜ queueIn (sizes .bound) r ≡ kept (getD (bearableQueues (sizes .largest) (pred (sizes .bound))) number []) ⌝ }
 {
     let last = sizes.bound - 1;
@@ -101,8 +107,10 @@ pub fn fill_ahead(
     values: &[u64],
     ahead: &mut [u64],
 )
-    requires { ⌜ Ready (now counts) (counted sheet) sizes slot × ValueRow (counted sheet) (slot .left) (slot .next) (now values) × (sizes .after * width .places ≤ length (now ahead)) ⌝ }
-    ensures { λ r. ⌜ Fills (width .places) (readAt width) (λ i. aheadOf (counted sheet) (slot .left) (queueAfter (counted sheet) i)) 0 (sizes .after) (now (ahead .entry)) (now (ahead .exit)) ⌝ }
+    requires { ⌜ Ready (now counts) (counted sheet) sizes slot × ValueRow (counted sheet) (slot .left) (slot .next) (now values) ×
+        (sizes .after * width .places ≤ length (now ahead)) ⌝ }
+    ensures { λ r. ⌜ Fills (width .places) (readAt width) (λ i. aheadOf (counted sheet) (slot .left) (queueAfter (counted sheet) i))
+        0 (sizes .after) (now (ahead .entry)) (now (ahead .exit)) ⌝ }
 {
     let mut number = 0;
     while number < sizes.after {

@@ -84,7 +84,8 @@ fn plan_refusal(counts: &[u32; 2352], sheet: Sheet, values_room: usize, plan_roo
 
 // Works out the plan of a sheet: T+1 rows of values and T rows of plan bytes, in lent memory.
 pub fn plan(sheet: Sheet, values: &mut [u64], plan: &mut [u8]) -> PlanAnswer
-    ensures { λ r. ⌜ IsPlan (counted sheet) (now (values .entry)) (now (plan .entry)) (now (values .exit)) (now (plan .exit)) (r .number) (r .queues) (r .least) ⌝ }
+    ensures { λ r. ⌜ IsPlan (counted sheet) (now (values .entry)) (now (plan .entry)) (now (values .exit)) (now (plan .exit))
+        (r .number) (r .queues) (r .least) ⌝ }
 {
     let counts = table();
     let number = plan_refusal(&counts, sheet, values.len(), plan.len());
@@ -99,8 +100,8 @@ pub fn plan(sheet: Sheet, values: &mut [u64], plan: &mut [u8]) -> PlanAnswer
     )
 }
 
-// The part of a plan that belongs to a slot: one byte for each queue, in the order of their numbers. It is empty where the sheet is refused,
-// the plan too short, or the slot not one of the sheet's.
+// The part of a plan that belongs to a slot: one byte for each queue, in the order of their numbers. It is empty where the sheet is
+// refused, the plan too short, or the slot not one of the sheet's.
 pub fn row(sheet: Sheet, plan: &[u8], slot: u32) -> &[u8]
     ensures { λ r. ⌜ IsRow (counted sheet) (now (plan .entry)) slot (now r) ⌝ }
 {

@@ -47,8 +47,12 @@ fn price(
     queue: [u32; 6],
     one: Speed,
 ) -> Value
-    requires { ⌜ HoldsCounts (now counts) × Ranges (sizes .largest) (sizes .bound) × (1 ≤ sizes .bound) × (queueCount (sizes .largest) (pred (sizes .bound)) * width .places ≤ length (now ahead)) × Below (width .limit) (priceIn (sizes .largest) (sizes .bound) (now ahead) (valueOf scale) (queueIn (sizes .bound) queue) (one .speed) (one .energy)) ⌝ }
-    ensures { λ r. ⌜ valueOf r ≡ priceIn (sizes .largest) (sizes .bound) (now (ahead .entry)) (valueOf scale) (queueIn (sizes .bound) queue) (one .speed) (one .energy) ⌝ }
+    requires { ⌜ HoldsCounts (now counts) × Ranges (sizes .largest) (sizes .bound) × (1 ≤ sizes .bound) ×
+        (queueCount (sizes .largest) (pred (sizes .bound)) * width .places ≤ length (now ahead)) ×
+        Below (width .limit)
+        (priceIn (sizes .largest) (sizes .bound) (now ahead) (valueOf scale) (queueIn (sizes .bound) queue) (one .speed) (one .energy)) ⌝ }
+    ensures { λ r. ⌜ valueOf r ≡
+        priceIn (sizes .largest) (sizes .bound) (now (ahead .entry)) (valueOf scale) (queueIn (sizes .bound) queue) (one .speed) (one .energy) ⌝ }
 {
     if one.speed < queue[0] {
         return value::none();
@@ -67,7 +71,8 @@ fn choose(
     ahead: &[u64],
     queue: [u32; 6],
 ) -> Chosen
-    requires { ⌜ Ready (now counts) (counted sheet) sizes slot × AheadRow (counted sheet) (slot .left) (now ahead) × T (bearable (sizes .largest) (queueIn (sizes .bound) queue)) ⌝ }
+    requires { ⌜ Ready (now counts) (counted sheet) sizes slot × AheadRow (counted sheet) (slot .left) (now ahead) ×
+        T (bearable (sizes .largest) (queueIn (sizes .bound) queue)) ⌝ }
     ensures { λ r. ⌜ IsChoice (choiceWith (counted sheet) (slot .left) (queueIn (sizes .bound) queue)) (r .speed) (valueOf (r .value)) ⌝ }
 {
     let mut best = Chosen {
@@ -94,7 +99,8 @@ pub fn fill_row(
     values: &mut [u64],
     plan: &mut [u8],
 )
-    requires { ⌜ Ready (now counts) (counted sheet) sizes slot × AheadRow (counted sheet) (slot .left) (now ahead) × ((slot .this + sizes .queues) * width .places ≤ length (now values)) × (slot .row + sizes .queues ≤ length (now plan)) ⌝ }
+    requires { ⌜ Ready (now counts) (counted sheet) sizes slot × AheadRow (counted sheet) (slot .left) (now ahead) ×
+        ((slot .this + sizes .queues) * width .places ≤ length (now values)) × (slot .row + sizes .queues ≤ length (now plan)) ⌝ }
     ensures { λ r. ⌜ Planned (counted sheet) slot (now (values .entry)) (now (plan .entry)) (now (values .exit)) (now (plan .exit)) ⌝ }
 {
     let mut number = 0;

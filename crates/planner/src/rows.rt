@@ -33,7 +33,8 @@ fn fill_end(queues: usize, from: usize, values: &mut [u64])
 // The slot with so many slots left after it.
 fn slot_with(queues: usize, horizon: u32, left: u32, scale: Value) -> Slot
     requires { ⌜ (queues ≤ 65535) × (horizon ≤ 200) × (left < horizon) ⌝ }
-    ensures { λ r. ⌜ (r .left ≡ left) × (r .scale ≡ scale) × (r .next ≡ r .this + queues) × (r .row ≡ r .this) × (r .this + suc left * queues ≡ horizon * queues) ⌝ }
+    ensures { λ r. ⌜ (r .left ≡ left) × (r .scale ≡ scale) × (r .next ≡ r .this + queues) × (r .row ≡ r .this) ×
+        (r .this + suc left * queues ≡ horizon * queues) ⌝ }
 {
     let this = horizon - 1 - left;
     Slot {
@@ -55,7 +56,9 @@ fn fill_slot(
     values: &mut [u64],
     plan: &mut [u8],
 )
-    requires { ⌜ Ready (now counts) (counted sheet) sizes slot × ValueRow (counted sheet) (slot .left) (slot .next) (now values) × (sizes .after * width .places ≤ length (now ahead)) × ((slot .this + sizes .queues) * width .places ≤ length (now values)) × (slot .row + sizes .queues ≤ length (now plan)) ⌝ }
+    requires { ⌜ Ready (now counts) (counted sheet) sizes slot × ValueRow (counted sheet) (slot .left) (slot .next) (now values) ×
+        (sizes .after * width .places ≤ length (now ahead)) × ((slot .this + sizes .queues) * width .places ≤ length (now values)) ×
+        (slot .row + sizes .queues ≤ length (now plan)) ⌝ }
     ensures { λ r. ⌜ Planned (counted sheet) slot (now (values .entry)) (now (plan .entry)) (now (values .exit)) (now (plan .exit)) ⌝ }
 {
     fill_ahead(counts, sheet, sizes, slot, values, ahead);
@@ -64,8 +67,11 @@ fn fill_slot(
 
 // Every slot, the last one first. There are at most 7,084 queues after a slot where there are at most 65,535 queues.
 fn fill_slots(counts: &[u32; 2352], sheet: Sheet, sizes: Sizes, values: &mut [u64], plan: &mut [u8])
-    requires { ⌜ Prepared (now counts) (counted sheet) sizes × (planNeeded (counted sheet) ≤ length (now plan)) × (valuesNeeded (counted sheet) * width .places ≤ length (now values)) × PlannedFrom (counted sheet) 0 (now values) (now plan) (now values) (now plan) ⌝ }
-    ensures { λ r. ⌜ PlannedFrom (counted sheet) (sheet .horizon) (now (values .entry)) (now (plan .entry)) (now (values .exit)) (now (plan .exit)) ⌝ }
+    requires { ⌜ Prepared (now counts) (counted sheet) sizes × (planNeeded (counted sheet) ≤ length (now plan)) ×
+        (valuesNeeded (counted sheet) * width .places ≤ length (now values)) ×
+        PlannedFrom (counted sheet) 0 (now values) (now plan) (now values) (now plan) ⌝ }
+    ensures { λ r. ⌜ PlannedFrom (counted sheet) (sheet .horizon)
+        (now (values .entry)) (now (plan .entry)) (now (values .exit)) (now (plan .exit)) ⌝ }
 {
     let mut ahead = [0; 7084];
     let all = weights(sheet);
@@ -82,8 +88,10 @@ fn fill_slots(counts: &[u32; 2352], sheet: Sheet, sizes: Sizes, values: &mut [u6
 
 // The end row and every slot.
 pub fn fill(counts: &[u32; 2352], sheet: Sheet, sizes: Sizes, values: &mut [u64], plan: &mut [u8])
-    requires { ⌜ Prepared (now counts) (counted sheet) sizes × (planNeeded (counted sheet) ≤ length (now plan)) × (valuesNeeded (counted sheet) * width .places ≤ length (now values)) ⌝ }
-    ensures { λ r. ⌜ PlannedFrom (counted sheet) (sheet .horizon) (now (values .entry)) (now (plan .entry)) (now (values .exit)) (now (plan .exit)) ⌝ }
+    requires { ⌜ Prepared (now counts) (counted sheet) sizes × (planNeeded (counted sheet) ≤ length (now plan)) ×
+        (valuesNeeded (counted sheet) * width .places ≤ length (now values)) ⌝ }
+    ensures { λ r. ⌜ PlannedFrom (counted sheet) (sheet .horizon)
+        (now (values .entry)) (now (plan .entry)) (now (values .exit)) (now (plan .exit)) ⌝ }
 {
     fill_end(sizes.queues, place(sizes.queues, sheet.horizon, 0), values);
     fill_slots(counts, sheet, sizes, values, plan);
