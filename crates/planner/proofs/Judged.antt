@@ -123,13 +123,9 @@ module _ (s : Counted) where
 
   -- places
 
-  -- of an accepted sheet: what the code asks before it works out a place
-  pub place-small : {sizes : Sizes} → sheetRefusal s ≡ 0 → Sized s sizes → (slot queue : ℕ) → slot ≤ s .horizon → queue ≤ sizes .queues →
-      (sizes .queues ≤ 65535) × (slot ≤ 200) × (queue ≤ 65535)
-  place-small {sizes = sizes} e sized slot queue h k =
-      let a = accepted s e in
-      let queues : sizes .queues ≤ 65535 = omega (arith, sized .queues-is, a .queues-high) in
-      (queues, omega (arith, a .ranged .horizon-high), omega arith)
+  -- of an accepted sheet: its queues and its slots are few enough for a place to be worked out
+  pub sizes-small : {sizes : Sizes} → sheetRefusal s ≡ 0 → Sized s sizes → (sizes .queues ≤ 65535) × (s .horizon ≤ 200)
+  sizes-small e sized = let a = accepted s e in (omega (arith, sized .queues-is, a .queues-high), a .ranged .horizon-high)
 
   -- the place that the code works out is the model's
   pub place-is : {sizes : Sizes} → Sized s sizes → (slot queue : ℕ) {place : ℕ} → place ≡ slot * sizes .queues + queue → place ≡ placeAt s slot queue
@@ -146,12 +142,12 @@ module _ (s : Counted) where
       let right = plan-accepted lent planRoom e in
       omega (arith, place-is sized 0 0 here, N-low s (accepted s (right .0) .ranged), right .1, last-row)
 
-  -- a slot's row ends within a plan that is long enough
-  pub row-within : {sizes : Sizes} → Sized s sizes → (room t : ℕ) {first : ℕ} → rowRefusal s room ≡ 0 → t < s .horizon →
-      first ≡ t * sizes .queues + 0 → first + sizes .queues ≤ room
-  row-within sized room t e h here =
-      omega
-      (arith, place-is sized t 0 here, sized .queues-is, suc-mul t (N s), mul-le-mul-right (N s) h, row-accepted room e .1)
+  -- a slot's row, and the first one, end within a plan that is long enough
+  pub row-room : {sizes : Sizes} → Sized s sizes → (room t : ℕ) → rowRefusal s room ≡ 0 → t < s .horizon →
+      (t * sizes .queues + sizes .queues ≤ room) × (sizes .queues ≤ room)
+  row-room sized room t e h =
+      subst (λ (n : ℕ). (t * n + n ≤ room) × (n ≤ room)) (sym (sized .queues-is))
+      (omega (arith, suc-mul t (N s), mul-le-mul-right (N s) h, row-accepted room e .1))
 
   -- the row
 

@@ -4,7 +4,7 @@ use native.Mathlib.Omega.{arith}
 use borrow.Author.Needs.{needs}
 use Rattle.model.proofs.Refusal.{accepted}
 use Rattle.model.specs.Counted.{counted}
-use Rattle.planner.proofs.Judged.{plan-accepted, refused-plan, filled-plan, place-small, place-is, first-within}
+use Rattle.planner.proofs.Judged.{plan-accepted, refused-plan, filled-plan, sizes-small, place-is, first-within}
 use Rattle.planner.proofs.Right.{planned-filled}
 use Rattle.planner.proofs.calls.plan.Statement.{statement}
 use Rattle.planner.proofs.calls.plan.Tie as tie
@@ -49,7 +49,7 @@ cast-planned c =
     let told = sizes .before .before in
     let s = counted (told .before .before .before .before .before .before .args .sheet) in
     let passed = sym (told .before .plan-refusal .ensures) ∙ told .if1 .left in
-    omega (arith, place-small s (plan-accepted s _ _ passed .0) (sizes .sizes-of .ensures) 0 0 (omega arith) (omega arith) .0)
+    omega (arith, sizes-small s (plan-accepted s _ _ passed .0) (sizes .sizes-of .ensures) .0)
 
 place-requires : tie.Need-place-requires
 place-requires c κs =
@@ -57,7 +57,7 @@ place-requires c κs =
     let told = sizes .before .before in
     let s = counted (told .before .before .before .before .before .before .args .sheet) in
     let passed = sym (told .before .plan-refusal .ensures) ∙ told .if1 .left in
-    place-small s (plan-accepted s _ _ passed .0) (sizes .sizes-of .ensures) 0 0 (omega arith) (omega arith)
+    (sizes-small s (plan-accepted s _ _ passed .0) (sizes .sizes-of .ensures) .0, omega arith, omega arith)
 
 load-requires : tie.Need-load-requires
 load-requires c κs =

@@ -3,7 +3,7 @@ use mathlib.Core.Path.{sym, _∙_}
 use native.Mathlib.Omega.{arith}
 use borrow.Author.Needs.{needs}
 use Rattle.model.specs.Counted.{counted}
-use Rattle.planner.proofs.Judged.{row-accepted, plan-refused, plan-short, plan-fits, place-small, place-is, last-row}
+use Rattle.planner.proofs.Judged.{row-accepted, plan-refused, plan-short, plan-fits, sizes-small, place-is, last-row}
 use Rattle.planner.proofs.calls.plan_refusal.Statement.{statement}
 use Rattle.planner.proofs.calls.plan_refusal.Tie as tie
 
@@ -25,7 +25,8 @@ place-requires c κs =
     let a = c .before .before .before .args in
     let s = counted (a .sheet) in
     let right = row-accepted s (a .plan-room) (sym (c .before .before .row-refusal .ensures) ∙ c .before .if1 .left) .0 in
-    place-small s right (c .sizes-of .ensures) (s .horizon) (c .sizes-of .result .queues) (omega arith) (omega arith)
+    let small = sizes-small s right (c .sizes-of .ensures) in
+    (small .0, omega (arith, small .1), omega (arith, small .0))
 
 returns-2 : tie.Need-returns-2
 returns-2 c =

@@ -3,7 +3,7 @@ use mathlib.Core.Path.{sym, _∙_}
 use native.Mathlib.Omega.{arith}
 use borrow.Author.Needs.{needs}
 use Rattle.model.specs.Counted.{counted}
-use Rattle.planner.proofs.Judged.{row-accepted, place-small, place-is, row-within, row-none, row-past, row-part}
+use Rattle.planner.proofs.Judged.{row-accepted, sizes-small, place-is, row-room, row-none, row-past, row-part}
 use Rattle.planner.proofs.calls.row.Statement.{statement}
 use Rattle.planner.proofs.calls.row.Tie as tie
 
@@ -27,7 +27,7 @@ slice-aggregate-result-2 c = search needs
 returns-2 : tie.Need-returns-2
 returns-2 c =
     let a = c .before .before .before .before .before .before .before .before .args in
-    row-past (counted (a .sheet)) (a .plan .now) (a .slot) (c .before .if2 .taken)
+    row-past (counted (a .sheet)) (a .plan .now) (a .slot) (omega (arith, c .before .if2 .taken))
 
 sizes-of-requires : tie.Need-sizes-of-requires
 sizes-of-requires c κs =
@@ -42,7 +42,8 @@ place-requires c κs =
     let a = told .before .before .before .before .before .before .before .args in
     let passed = sym (told .before .before .before .row-refusal .ensures) ∙ told .before .before .if1 .left in
     let s = counted (a .sheet) in
-    place-small s (row-accepted s _ passed .0) (c .sizes-of .ensures) (a .slot) 0 (omega (arith, told .if2 .left)) (omega arith)
+    let small = sizes-small s (row-accepted s _ passed .0) (c .sizes-of .ensures) in
+    (small .0, omega (arith, small .1, told .if2 .left), omega arith)
 
 add-end : tie.Need-add-end
 add-end c =
@@ -51,7 +52,8 @@ add-end c =
     let passed = sym (told .before .before .before .row-refusal .ensures) ∙ told .before .before .if1 .left in
     omega (
       arith,
-      row-within (counted (a .sheet)) (c .before .before .sizes-of .ensures) _ (a .slot) passed (told .if2 .left) (c .before .place .ensures),
+      row-room (counted (a .sheet)) (c .before .before .sizes-of .ensures) _ (a .slot) passed (told .if2 .left),
+      c .before .place .ensures,
     )
 
 sub-result : tie.Need-sub-result
@@ -65,7 +67,11 @@ part-result-end c =
     let told = c .before .before .before .before in
     let a = told .before .before .before .before .before .before .before .args in
     let passed = sym (told .before .before .before .row-refusal .ensures) ∙ told .before .before .if1 .left in
-    row-within (counted (a .sheet)) (c .before .before .sizes-of .ensures) _ (a .slot) passed (told .if2 .left) (c .before .place .ensures)
+    omega (
+      arith,
+      row-room (counted (a .sheet)) (c .before .before .sizes-of .ensures) _ (a .slot) passed (told .if2 .left),
+      c .before .place .ensures,
+    )
 
 returns-3 : tie.Need-returns-3
 returns-3 c =

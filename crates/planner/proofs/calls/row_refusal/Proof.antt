@@ -3,7 +3,7 @@ use mathlib.Core.Path.{sym, _∙_}
 use native.Mathlib.Omega.{arith}
 use borrow.Author.Needs.{needs}
 use Rattle.model.specs.Counted.{counted}
-use Rattle.planner.proofs.Judged.{row-refused, row-short, row-fits, place-small, place-is}
+use Rattle.planner.proofs.Judged.{row-refused, row-short, row-fits, sizes-small, place-is}
 use Rattle.planner.proofs.calls.row_refusal.Statement.{statement}
 use Rattle.planner.proofs.calls.row_refusal.Tie as tie
 
@@ -21,8 +21,8 @@ sizes-of-requires c κs = search needs
 place-requires : tie.Need-place-requires
 place-requires c κs =
     let s = counted (c .before .before .before .args .sheet) in
-    place-small s (sym (c .before .before .sheet-refusal .ensures) ∙ c .before .if1 .left) (c .sizes-of .ensures) (s .horizon) 0
-    (omega arith) (omega arith)
+    let small = sizes-small s (sym (c .before .before .sheet-refusal .ensures) ∙ c .before .if1 .left) (c .sizes-of .ensures) in
+    (small .0, omega (arith, small .1), omega arith)
 
 returns-2 : tie.Need-returns-2
 returns-2 c =

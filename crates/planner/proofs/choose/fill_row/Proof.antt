@@ -10,7 +10,7 @@ use Rattle.planner.proofs.choose.fill_row.Tie as tie
 
 abbrev Inv-loop : tie.InvT-loop
 Inv-loop counts sheet sizes slot ahead values₀ plan₀ number₀ values plan number =
-    (number ≤ sizes .queues) × PlannedTo (counted sheet) slot number values₀ plan₀ values plan
+    PlannedTo (counted sheet) slot number values₀ plan₀ values plan × (number ≤ sizes .queues)
 
 abbrev μ-loop : tie.MeasureT-loop
 μ-loop counts sheet sizes slot ahead values₀ plan₀ number₀ values plan number = sizes .queues - number
@@ -18,7 +18,7 @@ abbrev μ-loop : tie.MeasureT-loop
 loop-holds : tie.Need-loop-holds Inv-loop μ-loop
 loop-holds c =
     let a = c .before .before .before .args in
-    (omega arith, filled-none (counted (a .sheet)) (a .slot) (a .values .now) (a .plan .now))
+    (filled-none (counted (a .sheet)) (a .slot) (a .values .now) (a .plan .now), omega arith)
 
 queue-at-requires : tie.Need-queue-at-requires Inv-loop μ-loop
 queue-at-requires c κs =
@@ -75,17 +75,17 @@ loop-again c =
     let ready = start .pre .0 in
     let l = chose .before .before .before .before .loop in
     let low = chose .before .before .if1 .taken in (
-      omega arith,
       filled-more (counted (a .sheet)) (a .slot) (a .values .now) (a .plan .now) (queue-bearable ready (l .number) low)
-          (choose-told ready (l .number) low (chose .before .queue-at .ensures) (chose .choose .ensures)) (l .inv .1)
+          (choose-told ready (l .number) low (chose .before .queue-at .ensures) (chose .choose .ensures)) (l .inv .0)
           (c .before .before .before .before .store .ensures) (omega arith),
+      omega arith,
     )
 
 same-length : tie.Need-same-length Inv-loop μ-loop
-same-length c = c .before .before .loop .inv .1 .values-filled .same-length
+same-length c = c .before .before .loop .inv .0 .values-filled .same-length
 
 same-length-2 : tie.Need-same-length-2 Inv-loop μ-loop
-same-length-2 c = c .before .before .loop .inv .1 .plan-filled .same-length
+same-length-2 c = c .before .before .loop .inv .0 .plan-filled .same-length
 
 returns : tie.Need-returns Inv-loop μ-loop
 returns c =
@@ -93,7 +93,7 @@ returns c =
     let a = start .args in
     let l = c .before .before .loop in
     filled-whole (counted (a .sheet)) (a .slot) (a .values .now) (a .plan .now)
-    (omega (arith, start .pre .0 .prepared .sized .queues-is)) (l .inv .1)
+    (omega (arith, start .pre .0 .prepared .sized .queues-is)) (l .inv .0)
 
 pub fill-row-spec : {M : Type 1} → statement M
 fill-row-spec =
