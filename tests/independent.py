@@ -10,7 +10,16 @@ one by one, backward induction as on paper. Quotation marks hold 01's own words.
 prints a line for each file of sheet bytes, `NAME: number R queues N least L values V
 plan P`. R is the number of the read if that is refused, else the planner's 0 or 12; N
 and L are what the planner reports; V and P are the checksums (see `checksum`) of all
-(T+1)*N values and all T*N plan bytes. A refused sheet has 0 everywhere but in R.
+(T+1)*N values and all T*N plan bytes. A refused sheet has 0 everywhere but in R. NAME is
+the file as it was named. Lent memory is not modelled: there is no number 11 and no row call.
+
+The sheets of crates/walk_plans/data, each what it is for:
+    sheet_a  document 01's own: D 2, speeds 0 to 2, 2 jobs, T 2, 12 queues
+    wide     D 5, speeds 0 to 5, 8 jobs, T 12: 62,832 queues, close to the limit of number 9
+    long     D 6, speeds 0 to 2, 2 jobs, T 40: 7,752 queues, energies of one, two and three bytes
+    gaps     D 3, speeds 0, 3, 5, 8, the faster the cheaper, 24 jobs, T 8: 1,785 queues, number 12
+             with values in the later rows
+    mixed    D 4, speeds 0, 1, 3, 5, 8, some at equal energy, 24 jobs, T 10: 29,799 queues
 """
 
 import sys
@@ -246,7 +255,7 @@ def report(path):
     read, sheet = read_sheet(path.read_bytes())
     # The all-zero sheet of a refused read is refused by the planner in turn.
     planned, queue_count, least, values, plan = plan_sheet(sheet)
-    return (f"{path.stem}: number {read or planned} queues {queue_count} least {least}"
+    return (f"{path}: number {read or planned} queues {queue_count} least {least}"
             f" values {checksum(values)} plan {checksum(plan)}")
 
 

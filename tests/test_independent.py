@@ -137,6 +137,8 @@ def check_horizon():
     # 16 * 2048 * 8^16 is 2^63, the least number that is refused.
     assert refuse_sheet(one_job(1, [(0, 0), (1, 2_047)], 16, (8, 0, 1))) == 0
     assert refuse_sheet(one_job(1, [(0, 0), (1, 2_048)], 16, (8, 0, 1))) == 9
+    # "the greatest energy", whichever speed has it
+    assert refuse_sheet(one_job(1, [(0, 2_048), (1, 0)], 16, (8, 0, 1))) == 9
 
 
 def check_number_12():

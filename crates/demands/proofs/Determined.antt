@@ -43,7 +43,7 @@ pub write-is : {sheet : Sheet} {before after : List ℕ} {answer : Written} → 
 write-is {sheet = sheet} {before = before} {answer = answer} call =
     let promised : Sheet → List ℕ → List ℕ → Type 0 = λ s b a. IsWritten (counted s) b (answer .number) (answer .length) a in
     let left = now (call .at-exit .1 .0) in
-    let of-sheet = subst (λ (s : Sheet). promised s (now (call .lent .1 .0)) left) (call .sheet-is) (call .contract) in
+    let of-sheet = subst (λ (s : Sheet). promised s (now (call .lent .1 .0)) left) (call .sheet-written) (call .contract) in
     let of-buffer = subst (λ (l : List ℕ). promised sheet l left) (call .before-is) of-sheet in
     subst (λ (l : List ℕ). promised sheet before l) (call .after-is) of-buffer
 
@@ -75,7 +75,7 @@ plan-is {sheet = sheet} {values₀ = values₀} {plan₀ = plan₀} {values = va
     let plan-lent = now (call .lent .1 .1 .0) in
     let values-left = now (call .at-exit .1 .0) in
     let plan-left = now (call .at-exit .1 .1 .0) in
-    let of-sheet = subst (λ (s : Sheet). promised s (now (call .lent .1 .0)) plan-lent values-left plan-left) (call .sheet-is) (call .contract) in
+    let of-sheet = subst (λ (s : Sheet). promised s (now (call .lent .1 .0)) plan-lent values-left plan-left) (call .sheet-planned) (call .contract) in
     let of-values = subst (λ (l : List ℕ). promised sheet l plan-lent values-left plan-left) (call .values-before) of-sheet in
     let of-plan = subst (λ (l : List ℕ). promised sheet values₀ l values-left plan-left) (call .plan-before) of-values in
     let left-values = subst (λ (l : List ℕ). promised sheet values₀ plan₀ l plan-left) (call .values-after) of-plan in
@@ -99,8 +99,8 @@ pub row-is : {sheet : Sheet} {bytes part : List ℕ} {slot : ℕ} → Rows sheet
 row-is {sheet = sheet} {bytes = bytes} {slot = slot} call =
     let promised : Sheet → List ℕ → ℕ → List ℕ → Type 0 = λ s l t p. IsRow (counted s) l t p in
     let slot-asked = call .lent .1 .1 .0 in
-    let of-sheet = subst (λ (s : Sheet). promised s (now (call .lent .1 .0)) slot-asked (now (call .answer))) (call .sheet-is) (call .contract) in
-    let of-plan = subst (λ (l : List ℕ). promised sheet l slot-asked (now (call .answer))) (call .plan-is) of-sheet in
+    let of-sheet = subst (λ (s : Sheet). promised s (now (call .lent .1 .0)) slot-asked (now (call .answer))) (call .sheet-asked) (call .contract) in
+    let of-plan = subst (λ (l : List ℕ). promised sheet l slot-asked (now (call .answer))) (call .plan-lent) of-sheet in
     let of-slot = subst (λ (t : ℕ). promised sheet bytes t (now (call .answer))) (call .slot-is) of-plan in
     subst (λ (p : List ℕ). promised sheet bytes slot p) (call .answer-is) of-slot
 

@@ -12,7 +12,7 @@ use Rattle.model.specs.Refusal.{N, sheetRefusal}
 use Rattle.model.specs.declared.Sheet.{Sheet}
 use Rattle.model.proofs.Cases.{cases-hold}
 use Rattle.model.proofs.Leaves.{decoded-same, decided-same, answer-same}
-use Rattle.planner.proofs.Judged.{row-fits, plan-fits}
+use Rattle.planner.proofs.Refusals.{row-fits, plan-fits}
 use Rattle.planner.specs.declared.calls.PlanAnswer as code
 use Rattle.demands.specs.Calls.{Plans}
 use Rattle.demands.proofs.Demand2.{answered}

@@ -39,7 +39,7 @@ pub record Writes (sheet : Sheet) (before : List ℕ) (answer : Written) (after 
   pub lifetimes : Lfts 1
   pub lent : Dens lifetimes write-kinds.ps
   pub at-exit : AtExit (endedOf 1 write-kinds.ps write-kinds.r) lifetimes
-  pub sheet-is : lent .0 ≡ sheet
+  pub sheet-written : lent .0 ≡ sheet
   pub before-is : now (lent .1 .0) ≡ before
   pub after-is : now (at-exit .1 .0) ≡ after
   pub contract : write.Post lifetimes lent answer at-exit
@@ -49,7 +49,7 @@ pub record Plans (sheet : Sheet) (values₀ plan₀ : List ℕ) (answer : PlanAn
   pub lifetimes : Lfts 2
   pub lent : Dens lifetimes plan-kinds.ps
   pub at-exit : AtExit (endedOf 2 plan-kinds.ps plan-kinds.r) lifetimes
-  pub sheet-is : lent .0 ≡ sheet
+  pub sheet-planned : lent .0 ≡ sheet
   pub values-before : now (lent .1 .0) ≡ values₀
   pub plan-before : now (lent .1 .1 .0) ≡ plan₀
   pub values-after : now (at-exit .1 .0) ≡ values
@@ -61,8 +61,8 @@ pub record Rows (sheet : Sheet) (bytes : List ℕ) (slot : ℕ) (part : List ℕ
   pub lifetimes : Lfts 1
   pub lent : Dens lifetimes row-kinds.ps
   pub at-exit : AtExit (endedOf 1 row-kinds.ps row-kinds.r) lifetimes
-  pub sheet-is : lent .0 ≡ sheet
-  pub plan-is : now (lent .1 .0) ≡ bytes
+  pub sheet-asked : lent .0 ≡ sheet
+  pub plan-lent : now (lent .1 .0) ≡ bytes
   pub slot-is : lent .1 .1 .0 ≡ slot
   pub answer : resT row-kinds.r lifetimes .Denot
   pub answer-is : now answer ≡ part

@@ -24,7 +24,7 @@ use Rattle.value.proofs.Filling.{read-local, number-local, fills-outside}
 use Rattle.planner.specs.Passes.{valueWith, choiceWith, aheadOf, queueAfter, byteOf, ValueRow, AheadRow, InPlan, Planned, PlannedFrom}
 use Rattle.planner.specs.declared.sizes.Slot.{Slot}
 use Rattle.planner.proofs.Fits.{scale-fits}
-use Rattle.planner.proofs.Found.{value-last}
+use Rattle.planner.proofs.FirstPass.{value-last}
 
 -- of an accepted sheet
 
@@ -71,25 +71,26 @@ module _ (horizon left n this : ℕ) (h : left < horizon) (e : this ≡ (horizon
       let all : horizon ≡ horizon - 1 - left + suc left = omega arith in
       omega (arith, ap (λ (x : ℕ). x * n) all, add-mul (horizon - 1 - left) (suc left) n)
 
--- a slot that has k left after it, whose rows begin as many rows before the end row, and the next one behind them
+-- a slot that has k left after it: its rows of values and of plan bytes begin k + 1 rows before where the end row does, and the next
+-- slot's row of values right behind its own
 pub record Stands (s : Counted) (k : ℕ) (slot : Slot) : Type 0 where
   pub left-low : k < s .horizon
   pub left-is : slot .left ≡ k
   pub next-is : slot .next ≡ slot .this + N s
-  pub row-is : slot .row ≡ slot .this
   pub this-is : slot .this + suc k * N s ≡ s .horizon * N s
+  pub row-is : slot .row + suc k * N s ≡ s .horizon * N s
 
 -- so does the slot that the code makes
 pub slot-stands : (s : Counted) (k : ℕ) (slot : Slot) {queues : ℕ} {scale : Value} → queues ≡ N s → k < s .horizon →
-    (slot .left ≡ k) × (slot .scale ≡ scale) × (slot .next ≡ slot .this + queues) × (slot .row ≡ slot .this) ×
-    (slot .this + suc k * queues ≡ s .horizon * queues) → Stands s k slot
+    (slot .left ≡ k) × (slot .scale ≡ scale) × (slot .next ≡ slot .this + queues) ×
+    (slot .this + suc k * queues ≡ s .horizon * queues) × (slot .row + suc k * queues ≡ s .horizon * queues) → Stands s k slot
 slot-stands s k slot {queues = queues} e low made =
     record {
       left-low = low;
       left-is = made .0;
       next-is = omega (arith, made .2);
-      row-is = made .3;
-      this-is = subst (λ (n : ℕ). slot .this + suc k * n ≡ s .horizon * n) e (made .4);
+      this-is = subst (λ (n : ℕ). slot .this + suc k * n ≡ s .horizon * n) e (made .3);
+      row-is = subst (λ (n : ℕ). slot .row + suc k * n ≡ s .horizon * n) e (made .4);
     }
 
 -- it is one of the sheet's, and has its scale
@@ -106,30 +107,38 @@ module _ (s : Counted) (k : ℕ) (slot : Slot) (at : Stands s k slot) where
   abbrev t : ℕ
   t = s .horizon - suc k
 
-  -- its rows begin where row t does
-  this-place : slot .this ≡ t * N s
-  this-place =
+  -- a row that begins so many rows before the end row is row t
+  row-at : (from : ℕ) → from + suc k * N s ≡ s .horizon * N s → from ≡ t * N s
+  row-at from e =
       let all : s .horizon ≡ t + suc k = omega (arith, at .left-low) in
-      omega (arith, at .this-is, ap (λ (x : ℕ). x * N s) all, add-mul t (suc k) (N s))
+      omega (arith, ap (λ (x : ℕ). x * N s) all, add-mul t (suc k) (N s))
 
-  -- they end where the end row begins, or before
-  rows-within : slot .this + N s ≤ s .horizon * N s
-  rows-within = omega (arith, this-place, row-behind (N s) t (s .horizon) (omega (arith, at .left-low)))
+  -- so its rows begin where row t does
+
+  this-place : slot .this ≡ t * N s
+  this-place = row-at (slot .this) (at .this-is)
+
+  row-place : slot .row ≡ t * N s
+  row-place = row-at (slot .row) (at .row-is)
+
+  -- row t ends where the end row begins, or before
+  row-ends : t * N s + N s ≤ s .horizon * N s
+  row-ends = row-behind (N s) t (s .horizon) (omega (arith, at .left-low))
 
   module _ {values₀ plan₀ values plan : List ℕ} (past : PlannedFrom s k values₀ plan₀ values plan) where
     -- its row of values is within the lent memory
     pub values-room : valuesNeeded s * width .places ≤ length values₀ → (slot .this + N s) * width .places ≤ length values
-    values-room room = omega (arith, rows-within, past .values-length, suc-mul (s .horizon) (N s))
+    values-room room = omega (arith, this-place, row-ends, past .values-length, suc-mul (s .horizon) (N s))
 
     -- and so is its row of the plan
     pub plan-room : planNeeded s ≤ length plan₀ → slot .row + N s ≤ length plan
-    plan-room room = omega (arith, rows-within, past .plan-length, at .row-is)
+    plan-room room = omega (arith, row-place, row-ends, past .plan-length)
 
     -- the row of the next slot stands
     pub next-stands : valuesNeeded s * width .places ≤ length values₀ → ValueRow s (slot .left) (slot .next) values
     next-stands room =
         record {
-          room = omega (arith, rows-within, past .values-length, suc-mul (s .horizon) (N s), at .next-is);
+          room = omega (arith, this-place, row-ends, past .values-length, suc-mul (s .horizon) (N s), at .next-is);
           right = λ i h.
               let left : s .horizon - suc t ≡ slot .left = omega (arith, at .left-low, at .left-is) in
               let place : placeAt s (suc t) i ≡ slot .next + i = omega (arith, this-place, at .next-is, suc-mul t (N s)) in
@@ -147,42 +156,43 @@ module _ (s : Counted) (k : ℕ) (slot : Slot) (at : Stands s k slot) where
           values-right = λ u i from upto h. ⊎-elim (value-here u i h) (value-behind u i upto h) (eq-or-lt-of-le (reached u from));
           plan-right = λ u i from upto h. ⊎-elim (byte-here u i h) (byte-behind u i upto h) (eq-or-lt-of-le (reached u from));
           values-beyond = λ p h.
-              filled .values-filled .outside p (inr (omega (arith, rows-within, suc-mul (s .horizon) (N s)))) ∙ past .values-beyond p h;
-          plan-beyond = λ p h. filled .plan-filled .outside p (inr (omega (arith, rows-within, at .row-is))) ∙ past .plan-beyond p h;
+              filled .values-filled .outside p (inr (omega (arith, this-place, row-ends, suc-mul (s .horizon) (N s)))) ∙ past .values-beyond p h;
+          plan-beyond = λ p h. filled .plan-filled .outside p (inr (omega (arith, row-place, row-ends))) ∙ past .plan-beyond p h;
         }
       where
         reached : (u : ℕ) → s .horizon ≤ u + (k + 1) → t ≤ u
         reached u h = omega (arith, at .left-low)
 
-        here : (u i : ℕ) → t ≡ u → slot .this + i ≡ placeAt s u i
-        here u i e = omega (arith, this-place, ap (λ (x : ℕ). x * N s) e)
+        here : (u i : ℕ) → t ≡ u → t * N s + i ≡ placeAt s u i
+        here u i e = omega (arith, ap (λ (x : ℕ). x * N s) e)
 
-        behind : (u i : ℕ) → t < u → slot .this + N s ≤ placeAt s u i
-        behind u i l = omega (arith, this-place, row-behind (N s) t u l)
+        behind : (u i : ℕ) → t < u → t * N s + N s ≤ placeAt s u i
+        behind u i l = omega (arith, row-behind (N s) t u l)
 
         value-here : (u i : ℕ) → i < N s → t ≡ u → readAt width values′ (placeAt s u i) ≡ valueWith s (s .horizon - u) (queueAt s i)
         value-here u i h e =
             let left : suc (slot .left) ≡ s .horizon - u = omega (arith, at .left-low, at .left-is) in
-            subst (λ (p : ℕ). readAt width values′ p ≡ valueWith s (s .horizon - u) (queueAt s i)) (here u i e)
+            let place : slot .this + i ≡ placeAt s u i = omega (arith, here u i e, this-place) in
+            subst (λ (p : ℕ). readAt width values′ p ≡ valueWith s (s .horizon - u) (queueAt s i)) place
             (filled .values-filled .filled i h ∙ ap (λ (l : ℕ). valueWith s l (queueAt s i)) left)
 
         value-behind : (u i : ℕ) → u ≤ s .horizon → i < N s → t < u →
             readAt width values′ (placeAt s u i) ≡ valueWith s (s .horizon - u) (queueAt s i)
         value-behind u i upto h l =
-            fills-outside (width .places) (readAt width) (read-local width) (filled .values-filled) (placeAt s u i) (inr (behind u i l)) ∙
+            fills-outside (width .places) (readAt width) (read-local width) (filled .values-filled) (placeAt s u i) (inr (omega (arith, behind u i l, this-place))) ∙
             past .values-right u i (omega arith) upto h
 
         byte-here : (u i : ℕ) → i < N s → t ≡ u → getD plan′ (placeAt s u i) 0 ≡ byteOf (choiceWith s (pred (s .horizon - u)) (queueAt s i))
         byte-here u i h e =
             let left : slot .left ≡ pred (s .horizon - u) = omega (arith, at .left-low, at .left-is) in
-            let place : slot .row + i ≡ placeAt s u i = omega (arith, here u i e, at .row-is) in
+            let place : slot .row + i ≡ placeAt s u i = omega (arith, here u i e, row-place) in
             subst (λ (p : ℕ). getD plan′ p 0 ≡ byteOf (choiceWith s (pred (s .horizon - u)) (queueAt s i))) place
             (filled .plan-filled .filled i h ∙ ap (λ (l : ℕ). byteOf (choiceWith s l (queueAt s i))) left)
 
         byte-behind : (u i : ℕ) → u < s .horizon → i < N s → t < u →
             getD plan′ (placeAt s u i) 0 ≡ byteOf (choiceWith s (pred (s .horizon - u)) (queueAt s i))
         byte-behind u i upto h l =
-            fills-outside 1 numberAt number-local (filled .plan-filled) (placeAt s u i) (inr (omega (arith, behind u i l, at .row-is))) ∙
+            fills-outside 1 numberAt number-local (filled .plan-filled) (placeAt s u i) (inr (omega (arith, behind u i l, row-place))) ∙
             past .plan-right u i (omega arith) upto h
 
 -- the first pass leaves what the second one needs

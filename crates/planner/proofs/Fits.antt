@@ -1,4 +1,4 @@
--- That nothing wraps: every value, every sum over some of the entries, every price and the scale stay below the limit of a value. No bound
+-- That nothing wraps: every value, every sum over some of the entries, every cost and the scale stay below the limit of a value. No bound
 -- stands in a loop's invariant: one induction over the recursion bounds its values (process/proofs/Eased.antt), and number 9 does the rest.
 use Prim.Native.Nat.{ℕ, zero, suc, _+_, _*_, _^_, _≤_, _<_}
 use mathlib.Core.Path.{_≡_, refl, sym, ap, _∙_, subst}
@@ -121,10 +121,10 @@ module _ (s : Counted) (a : Accepted s) where
       at-most-below (most (suc k)) (width .limit) (aheadTo s k v n) (omega (arith, most-fits (suc k) h))
       (at-most-raised (k * G s * W s ^ suc k) (most (suc k)) (aheadTo s k v n) (mul-le-mul-right (W s ^ suc k) (mul-le-mul-right (G s) (omega arith))) (ahead-upto k v n l))
 
-  -- so does the price of a speed of the sheet
-  pub price-fits : (k : ℕ) (v : Queue) (j : ℕ) → k < s .horizon → j < s .speedCount →
+  -- so does the cost of a speed of the sheet
+  pub cost-fits : (k : ℕ) (v : Queue) (j : ℕ) → k < s .horizon → j < s .speedCount →
       Below (width .limit) (plus (aheadOf s k v) (times (energyAt s j) (some (W s ^ suc k))))
-  price-fits k v j h l =
+  cost-fits k v j h l =
       at-most-below (most (suc k)) (width .limit) (plus (aheadOf s k v) (some (energyAt s j * W s ^ suc k))) (omega (arith, most-fits (suc k) h))
       (at-most-raised (k * G s * W s ^ suc k + energyAt s j * W s ^ suc k) (most (suc k)) (plus (aheadOf s k v) (some (energyAt s j * W s ^ suc k))) (omega (arith, mul-le-mul-right (W s ^ suc k) (energy-upto j l)))
       (at-most-plus (k * G s * W s ^ suc k) (energyAt s j * W s ^ suc k) (aheadOf s k v) (some (energyAt s j * W s ^ suc k)) (ahead-upto k v (s .jobCount) (le-refl _)) (le-refl _)))

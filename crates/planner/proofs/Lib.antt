@@ -1,6 +1,6 @@
-pub mod Found
+pub mod FirstPass
 pub mod Fits
-pub mod Prices
+pub mod SecondPass
 pub mod Backward
-pub mod Judged
+pub mod Refusals
 pub mod Right

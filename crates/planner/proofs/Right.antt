@@ -22,7 +22,7 @@ use Rattle.value.proofs.OnePlace.{read-is}
 use Rattle.value.specs.Narrow.{width}
 use Rattle.value.specs.Width.{readAt}
 use Rattle.planner.specs.Passes.{valueWith, choiceWith, byteOf, PlannedFrom}
-use Rattle.planner.proofs.Found.{value-chosen}
+use Rattle.planner.proofs.FirstPass.{value-chosen}
 
 -- the planner reads a value as the model does: the code of none is the same
 pub read-value-in : (l : List ℕ) (i : ℕ) → readAt width l i ≡ valueIn l i

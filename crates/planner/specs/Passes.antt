@@ -60,8 +60,8 @@ abbrev pub AheadRow : Counted → ℕ → List ℕ → Type 0
 AheadRow s k l = Row (λ i. aheadOf s k (queueAfter s i)) 0 (queueCount (M s) (pred (s .bound))) l
 
 -- what a speed costs in a queue of D positions, where `ahead` is the buffer of what is ahead: the scaled energy and what is ahead after it
-unfoldable pub priceIn : ℕ → ℕ → List ℕ → Option ℕ → Queue → ℕ → ℕ → Option ℕ
-priceIn largest D ahead scale w speed energy =
+unfoldable pub costIn : ℕ → ℕ → List ℕ → Option ℕ → Queue → ℕ → ℕ → Option ℕ
+costIn largest D ahead scale w speed energy =
     only (leb (total w 1) speed) (plus (valueInRow largest ahead 0 (queueIn (pred D) (run w speed))) (times energy scale))
 
 -- a choice as the code keeps it: a speed, 255 where there is none, and a value
@@ -73,9 +73,9 @@ pub record IsChoice (c : Choice) (speed : ℕ) (r : Option ℕ) : Type 0 where
   pub speed-is : speed ≡ byteOf c
   pub value-is : r ≡ worth c
 
--- one speed more: whatever the choice was before, it is now the better of that and this speed at its price
+-- one speed more: whatever the choice was before, it is now the better of that and this speed at its cost
 abbrev pub IsBetter : ℕ → Option ℕ → ℕ → Option ℕ → ℕ → Option ℕ → Type 0
-IsBetter before r a price speed q = (c : Choice) → IsChoice c before r → IsChoice (better c a price) speed q
+IsBetter before r a cost speed q = (c : Choice) → IsChoice c before r → IsChoice (better c a cost) speed q
 
 -- what is worked out once for a sheet: M, D, N, and how many queues there are after a slot
 pub record Sized (s : Counted) (sizes : Sizes) : Type 0 where

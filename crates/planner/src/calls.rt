@@ -46,7 +46,7 @@ fn planned(queues: u32, least: Value) -> PlanAnswer
     PlanAnswer {
         number: 0,
         queues,
-        least: least.number,
+        least: value::number(least),
     }
 }
 
@@ -71,12 +71,16 @@ fn plan_refusal(counts: &[u32; 2352], sheet: Sheet, values_room: usize, plan_roo
     requires { ⌜ HoldsCounts (now counts) ⌝ }
     ensures { λ r. ⌜ r ≡ planRefusal (counted sheet) «values_room» «plan_room» ⌝ }
 {
-    let number = row_refusal(counts, sheet, plan_room);
+    let number = sheet_refusal(counts, sheet);
     if number != 0 {
         return number;
     }
     let sizes = sizes_of(counts, sheet);
-    if values_room < place(sizes.queues, sheet.horizon, sizes.queues) {
+    let needed = place(sizes.queues, sheet.horizon, sizes.queues);
+    if !value::fit(needed, values_room) {
+        return 11;
+    }
+    if plan_room < place(sizes.queues, sheet.horizon, 0) {
         return 11;
     }
     0

@@ -17,29 +17,29 @@ ghost use Rattle.queues.specs.Counts.{HoldsCounts};
 ghost use Rattle.queues.specs.Order.{Ranges};
 ghost use Rattle.value.specs.Narrow.{width, valueOf};
 ghost use Rattle.value.specs.Width.{Below};
-ghost use Rattle.planner.specs.Passes.{priceIn, AheadRow, IsChoice, IsBetter, choiceWith, Ready, Planned};
+ghost use Rattle.planner.specs.Passes.{costIn, AheadRow, IsChoice, IsBetter, choiceWith, Ready, Planned};
 
-// The least so far: a speed and what it costs; 255 and none where there is no speed yet.
+// The speed of a queue that has none.
+const NO_SPEED: u32 = 255;
+
+// The least so far: a speed and what it costs; none of both where there is no speed yet.
 pub struct Chosen {
     pub speed: u32,
     pub value: Value,
 }
 
 // The least so far and one speed more. Speeds come in rising order, so that where two cost the same the slower one stays.
-fn better(best: Chosen, speed: u32, price: Value) -> Chosen
-    ensures { λ r. ⌜ IsBetter (best .speed) (valueOf (best .value)) speed (valueOf price) (r .speed) (valueOf (r .value)) ⌝ }
+fn better(best: Chosen, speed: u32, cost: Value) -> Chosen
+    ensures { λ r. ⌜ IsBetter (best .speed) (valueOf (best .value)) speed (valueOf cost) (r .speed) (valueOf (r .value)) ⌝ }
 {
-    if value::less(price, best.value) {
-        return Chosen {
-            speed,
-            value: price,
-        };
+    if value::less(cost, best.value) {
+        return Chosen { speed, value: cost };
     }
     best
 }
 
 // What a speed costs in a queue: its scaled energy and what is ahead after it, none where the speed is below w(1).
-fn price(
+fn cost(
     counts: &[u32; 2352],
     sizes: Sizes,
     scale: Value,
@@ -50,9 +50,9 @@ fn price(
     requires { ⌜ HoldsCounts (now counts) × Ranges (sizes .largest) (sizes .bound) × (1 ≤ sizes .bound) ×
         (queueCount (sizes .largest) (pred (sizes .bound)) * width .places ≤ length (now ahead)) ×
         Below (width .limit)
-        (priceIn (sizes .largest) (sizes .bound) (now ahead) (valueOf scale) (queueIn (sizes .bound) queue) (one .speed) (one .energy)) ⌝ }
+        (costIn (sizes .largest) (sizes .bound) (now ahead) (valueOf scale) (queueIn (sizes .bound) queue) (one .speed) (one .energy)) ⌝ }
     ensures { λ r. ⌜ valueOf r ≡
-        priceIn (sizes .largest) (sizes .bound) (now (ahead .entry)) (valueOf scale) (queueIn (sizes .bound) queue) (one .speed) (one .energy) ⌝ }
+        costIn (sizes .largest) (sizes .bound) (now (ahead .entry)) (valueOf scale) (queueIn (sizes .bound) queue) (one .speed) (one .energy) ⌝ }
 {
     if one.speed < queue[0] {
         return value::none();
@@ -76,14 +76,14 @@ fn choose(
     ensures { λ r. ⌜ IsChoice (choiceWith (counted sheet) (slot .left) (queueIn (sizes .bound) queue)) (r .speed) (valueOf (r .value)) ⌝ }
 {
     let mut best = Chosen {
-        speed: 255,
+        speed: NO_SPEED,
         value: value::none(),
     };
     let mut place = 0;
     while place < sheet.speed_count {
         let one = sheet.speeds[place as usize];
-        let cost = price(counts, sizes, slot.scale, ahead, queue, one);
-        best = better(best, one.speed, cost);
+        let here = cost(counts, sizes, slot.scale, ahead, queue, one);
+        best = better(best, one.speed, here);
         place += 1;
     }
     best

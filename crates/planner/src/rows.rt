@@ -33,8 +33,8 @@ fn fill_end(queues: usize, from: usize, values: &mut [u64])
 // The slot with so many slots left after it.
 fn slot_with(queues: usize, horizon: u32, left: u32, scale: Value) -> Slot
     requires { ⌜ (queues ≤ 65535) × (horizon ≤ 200) × (left < horizon) ⌝ }
-    ensures { λ r. ⌜ (r .left ≡ left) × (r .scale ≡ scale) × (r .next ≡ r .this + queues) × (r .row ≡ r .this) ×
-        (r .this + suc left * queues ≡ horizon * queues) ⌝ }
+    ensures { λ r. ⌜ (r .left ≡ left) × (r .scale ≡ scale) × (r .next ≡ r .this + queues) ×
+        (r .this + suc left * queues ≡ horizon * queues) × (r .row + suc left * queues ≡ horizon * queues) ⌝ }
 {
     let this = horizon - 1 - left;
     Slot {
@@ -73,15 +73,16 @@ fn fill_slots(counts: &[u32; 2352], sheet: Sheet, sizes: Sizes, values: &mut [u6
     ensures { λ r. ⌜ PlannedFrom (counted sheet) (sheet .horizon)
         (now (values .entry)) (now (plan .entry)) (now (values .exit)) (now (plan .exit)) ⌝ }
 {
+    // 7,084 values, at one place each
     let mut ahead = [0; 7084];
-    let all = weights(sheet);
+    let weight_sum = weights(sheet);
     let mut scale = value::of(1);
     let mut left = 0;
     while left < sheet.horizon {
-        let with_this = value::add(value::of(0), all, scale);
-        let slot = slot_with(sizes.queues, sheet.horizon, left, with_this);
+        let next_scale = value::add(value::of(0), weight_sum, scale);
+        let slot = slot_with(sizes.queues, sheet.horizon, left, next_scale);
         fill_slot(counts, sheet, sizes, slot, &mut ahead, values, plan);
-        scale = with_this;
+        scale = next_scale;
         left += 1;
     }
 }

@@ -8,9 +8,14 @@ use mathlib.Core.Logic.{⊎-elim}
 use native.Mathlib.Nat.{eq-or-lt-of-le}
 use native.Mathlib.Omega.{arith}
 use borrow.Author.Tests.{lt-ltb, le-ltb, ne-eqb, eqb-true, eqb-false}
-use lib.Dec.{eqb, ltb}
+use lib.Dec.{T, eqb, ltb}
 use Rattle.process.specs.Recursion.{plus, times}
 use Rattle.value.specs.Width.{Width, decode, Below, missing, lessThan}
+
+-- a value of which the test says so is none
+pub missing-none : (r : Option ℕ) → missing r ≡ true → r ≡ none
+missing-none none e = refl
+missing-none (some v) e = absurd (subst T (sym e) tt)
 
 module _ (W : Width) where
   -- the test against the code tells whether there is none
@@ -21,11 +26,7 @@ module _ (W : Width) where
       go true = refl
       go false = refl
 
-  -- what is none, and what is not
-
-  pub decode-none : (x : ℕ) → missing (decode W x) ≡ true → decode W x ≡ none
-  decode-none x e = ap (λ (b : Bool). cond b none (some x)) (missing-is x ∙ e)
-
+  -- a number that does not stand for none is itself
   pub decode-some : (x : ℕ) → missing (decode W x) ≡ false → decode W x ≡ some x
   decode-some x e = ap (λ (b : Bool). cond b none (some x)) (missing-is x ∙ e)
 

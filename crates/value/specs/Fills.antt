@@ -1,5 +1,5 @@
 -- What a call leaves in a lent buffer that it fills from a place on. The buffer may hold values, or plain numbers such as plan bytes: a
--- reader says what stands at a place, and how many places of the buffer it looks at.
+-- reader says what stands at a place, and `places` how many places of the buffer that takes.
 use Prim.Native.Nat.{ℕ, _+_, _*_, _≤_, _<_}
 use mathlib.Core.Path.{_≡_}
 use mathlib.Core.List.{List}

@@ -13,7 +13,7 @@ pub record Width : Type 0 where
   pub noneCode : ℕ
   pub limit : ℕ
 
--- the number that stands in n places from one on, the lowest first
+-- the number that stands in n places from place `at` on, the lowest first
 unfoldable pub numberFrom : List ℕ → ℕ → ℕ → ℕ
 numberFrom l at zero = 0
 numberFrom l at (suc n) = getD l at 0 + 2 ^ 64 * numberFrom l (suc at) n

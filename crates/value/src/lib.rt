@@ -1,9 +1,11 @@
-// One value: a whole number or none, in the code and at a place of a lent buffer. Whoever works with values does so through these
-// functions, and their contracts are over a width (specs/Width.antt), so that a wider value needs another crate of this shape and no
-// other planner.
+// One value: a whole number or none, in the code and at a place of a lent buffer. The planner works with values through these functions
+// alone, and what they promise is said over a width (specs/Width.antt), so that a planner of wider values differs from this one in its
+// `use` lines.
 ghost use mathlib.Core.Path.{_≡_};
+ghost use mathlib.Core.Bool.{false};
 ghost use mathlib.Core.Option.{none, some};
 ghost use Prim.Native.Nat.{suc, _*_, _≤_};
+ghost use lib.Dec.{leb};
 ghost use lib.ListN.{length};
 ghost use Rattle.process.specs.Recursion.{plus, times};
 ghost use Rattle.value.specs.Width.{readAt, Below, missing, lessThan};
@@ -13,6 +15,7 @@ ghost use Rattle.value.specs.Fills.{Fills};
 // The number that stands for none.
 const NONE: u64 = 18446744073709551615;
 
+// A value: its number, or NONE.
 pub struct Value {
     pub number: u64,
 }
@@ -38,6 +41,14 @@ pub fn is_none(value: Value) -> bool
     value.number == NONE
 }
 
+// The number of a value that is there.
+pub fn number(value: Value) -> u64
+    requires { ⌜ missing (valueOf value) ≡ false ⌝ }
+    ensures { λ r. ⌜ valueOf value ≡ some r ⌝ }
+{
+    value.number
+}
+
 // The first value and so many times another, none where either is. It asks that the sum stays below the limit, so that nothing wraps; a
 // product is made only where both are there.
 pub fn add(first: Value, by: u32, value: Value) -> Value
@@ -55,11 +66,18 @@ pub fn add(first: Value, by: u32, value: Value) -> Value
     }
 }
 
-// Whether a value is less than another; none is less than nothing, and whatever is there is less than none.
+// Whether a value is less than another. None is less than no value, and every value that is there is less than none.
 pub fn less(value: Value, than: Value) -> bool
     ensures { λ r. ⌜ r ≡ lessThan (valueOf value) (valueOf than) ⌝ }
 {
     value.number < than.number
+}
+
+// Whether so many values fit a buffer of so many places.
+pub fn fit(count: usize, room: usize) -> bool
+    ensures { λ r. ⌜ r ≡ leb (count * width .places) room ⌝ }
+{
+    count <= room
 }
 
 // The value at a place.

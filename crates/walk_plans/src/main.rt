@@ -1,7 +1,9 @@
 // Plans each sheet whose file is named as an argument, and prints a line for it: the file's name, what the plan answers, and a checksum
-// of all its values and of all its plan bytes. What it should print is stored beside the crate, and came from tests/independent.py.
+// of all its values and of all its plan bytes, row by row. What it should print is stored beside the crate, and came from
+// tests/independent.py, which also says what each sheet is for; the gate compares the two.
 ghost use Prim.Native.Nat.{_*_, _≤_, _<_};
 use libc::STDOUT_FILENO;
+use model::Sheet;
 
 // A checksum and one number more.
 fn with_number(sum: u64, number: u64) -> u64
@@ -33,16 +35,27 @@ fn sum_of_values(values: &[u64], count: usize) -> u64 {
     sum
 }
 
-// The checksum of the first plan bytes.
-fn sum_of_bytes(plan: &[u8], count: usize) -> u64 {
-    let mut sum = 0;
+// The checksum with every byte of a row.
+fn with_row(sum: u64, row: &[u8]) -> u64
+    requires { ⌜ sum < 4294967291 ⌝ }
+    ensures { λ r. ⌜ r < 4294967291 ⌝ }
+{
+    let mut sum = sum;
     let mut place = 0;
-    while place < plan.len() {
-        if count <= place {
-            return sum;
-        }
-        sum = with_byte(sum, plan[place]);
+    while place < row.len() {
+        sum = with_byte(sum, row[place]);
         place += 1;
+    }
+    sum
+}
+
+// The checksum of the plan, row by row as the row call hands them out.
+fn sum_of_rows(sheet: Sheet, plan: &[u8]) -> u64 {
+    let mut sum = 0;
+    let mut slot = 0;
+    while slot < sheet.horizon {
+        sum = with_row(sum, planner::row(sheet, plan, slot));
+        slot += 1;
     }
     sum
 }
@@ -93,7 +106,7 @@ fn plan_file(path: &[u8], values: &mut [u64], plan: &mut [u8]) {
         answer.queues,
         answer.least,
         all,
-        sum_of_bytes(plan, bytes),
+        sum_of_rows(sheet, plan),
     );
 }
 

@@ -1,11 +1,20 @@
 -- `add` meets its contract: none where either is none, else the sum, which fits since it stays below the limit.
-use mathlib.Core.Path.{sym, _∙_}
+use mathlib.Core.Option.{some}
+use mathlib.Core.Path.{_≡_, sym, _∙_}
 use native.Mathlib.Omega.{arith}
 use borrow.Author.Needs.{needs}
 use Rattle.value.specs.Narrow.{width, valueOf}
-use Rattle.value.proofs.Decoding.{decode-none, decode-some, sum-below, sum-is, sum-first-none, sum-other-none}
+use Rattle.value.proofs.Decoding.{missing-none, decode-some, sum-below, sum-is, sum-first-none, sum-other-none}
 use Rattle.value.proofs.add.Statement.{statement}
 use Rattle.value.proofs.add.Tie as tie
+
+-- past both tests both values are there
+
+first-there : (c : tie.Else2) → let a = c .before .before .before .before .args in valueOf (a .first) ≡ some (a .first .number)
+first-there c = decode-some width (c .before .before .before .before .args .first .number) (sym (c .before .before .before .is-none .ensures) ∙ c .before .before .if1 .left)
+
+other-there : (c : tie.Else2) → let a = c .before .before .before .before .args in valueOf (a .value) ≡ some (a .value .number)
+other-there c = decode-some width (c .before .before .before .before .args .value .number) (sym (c .before .is-none2 .ensures) ∙ c .if2 .left)
 
 is-none-requires : tie.Need-is-none-requires
 is-none-requires c κs = search needs
@@ -13,7 +22,8 @@ is-none-requires c κs = search needs
 returns : tie.Need-returns
 returns c =
     let a = c .before .before .args in
-    sum-first-none (valueOf (a .first)) (valueOf (a .value)) (a .by) (decode-none width (a .first .number) (sym (c .before .is-none .ensures) ∙ c .if1 .taken))
+    sum-first-none (valueOf (a .first)) (valueOf (a .value)) (a .by)
+    (missing-none (valueOf (a .first)) (sym (c .before .is-none .ensures) ∙ c .if1 .taken))
 
 is-none-requires-2 : tie.Need-is-none-requires-2
 is-none-requires-2 c κs = search needs
@@ -21,31 +31,34 @@ is-none-requires-2 c κs = search needs
 returns-2 : tie.Need-returns-2
 returns-2 c =
     let a = c .before .before .before .before .args in
-    sum-other-none (valueOf (a .first)) (valueOf (a .value)) (a .by) (decode-none width (a .value .number) (sym (c .before .is-none2 .ensures) ∙ c .if2 .taken))
+    sum-other-none (valueOf (a .first)) (valueOf (a .value)) (a .by)
+    (missing-none (valueOf (a .value)) (sym (c .before .is-none2 .ensures) ∙ c .if2 .taken))
 
 mul-t7 : tie.Need-mul-t7
 mul-t7 c =
     let start = c .before .before .before .before .before in
     let a = start .args in
-    let first = decode-some width (a .first .number) (sym (c .before .before .before .before .is-none .ensures) ∙ c .before .before .before .if1 .left) in
-    let other = decode-some width (a .value .number) (sym (c .before .before .is-none2 .ensures) ∙ c .before .if2 .left) in
-    omega (arith, sum-below width (a .first .number) (a .by) (a .value .number) first other (start .pre))
+    omega (
+      arith,
+      sum-below width (a .first .number) (a .by) (a .value .number) (first-there (c .before)) (other-there (c .before)) (start .pre),
+    )
 
 add-t8 : tie.Need-add-t8
 add-t8 c =
     let start = c .before .before .before .before .before .before in
     let a = start .args in
-    let first = decode-some width (a .first .number) (sym (c .before .before .before .before .before .is-none .ensures) ∙ c .before .before .before .before .if1 .left) in
-    let other = decode-some width (a .value .number) (sym (c .before .before .before .is-none2 .ensures) ∙ c .before .before .if2 .left) in
-    omega (arith, sum-below width (a .first .number) (a .by) (a .value .number) first other (start .pre))
+    omega (
+      arith,
+      sum-below width (a .first .number) (a .by) (a .value .number) (first-there (c .before .before)) (other-there (c .before .before))
+          (start .pre),
+    )
 
 returns-3 : tie.Need-returns-3
 returns-3 c =
     let start = c .before .before .before .before .before .before in
     let a = start .args in
-    let first = decode-some width (a .first .number) (sym (c .before .before .before .before .before .is-none .ensures) ∙ c .before .before .before .before .if1 .left) in
-    let other = decode-some width (a .value .number) (sym (c .before .before .before .is-none2 .ensures) ∙ c .before .before .if2 .left) in
-    sum-is width (a .first .number) (a .by) (a .value .number) first other (start .pre) (omega arith)
+    sum-is width (a .first .number) (a .by) (a .value .number) (first-there (c .before .before)) (other-there (c .before .before))
+    (start .pre) (omega arith)
 
 pub add-spec : {M : Type 1} → statement M
 add-spec =

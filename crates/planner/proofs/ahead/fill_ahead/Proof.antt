@@ -11,7 +11,7 @@ use Rattle.value.specs.Fills.{Fills}
 use Rattle.value.specs.Narrow.{width}
 use Rattle.value.specs.Width.{readAt}
 use Rattle.planner.specs.Passes.{aheadOf, queueAfter}
-use Rattle.planner.proofs.Found.{sized-ranges, sized-bound, sized-after, sized-queue-after, kept-small}
+use Rattle.planner.proofs.FirstPass.{sized-ranges, sized-bound, sized-after, sized-queue-after, kept-small}
 use Rattle.planner.proofs.ahead.fill_ahead.Statement.{statement}
 use Rattle.planner.proofs.ahead.fill_ahead.Tie as tie
 

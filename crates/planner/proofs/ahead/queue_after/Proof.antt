@@ -1,6 +1,6 @@
 -- `queue_after` meets its contract: the queue of one position fewer, and its last total written behind it.
 use borrow.Author.Needs.{needs}
-use Rattle.planner.proofs.Found.{ranges-fewer, below-fewer, kept-in}
+use Rattle.planner.proofs.FirstPass.{ranges-fewer, below-fewer, kept-in}
 use Rattle.planner.proofs.ahead.queue_after.Statement.{statement}
 use Rattle.planner.proofs.ahead.queue_after.Tie as tie
 

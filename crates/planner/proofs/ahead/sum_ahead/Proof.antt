@@ -13,7 +13,7 @@ use Rattle.value.specs.Narrow.{width, valueOf}
 use Rattle.value.specs.Width.{Below}
 use Rattle.planner.specs.Passes.{aheadTo}
 use Rattle.planner.proofs.Fits.{ahead-fits}
-use Rattle.planner.proofs.Found.{sized-ranges, sized-queues, ahead-none, ahead-turn}
+use Rattle.planner.proofs.FirstPass.{sized-ranges, sized-queues, ahead-none, ahead-turn}
 use Rattle.planner.proofs.ahead.sum_ahead.Statement.{statement}
 use Rattle.planner.proofs.ahead.sum_ahead.Tie as tie
 

@@ -8,7 +8,7 @@ use Rattle.queues.proofs.RoundTrip.{number-in-below}
 use Rattle.sheets.proofs.Answers.{passed-by, failed-by}
 use Rattle.value.specs.Narrow.{width}
 use Rattle.value.specs.Width.{readAt}
-use Rattle.planner.proofs.Found.{none-in-row, read-in-row, numbered-by, room-at}
+use Rattle.planner.proofs.FirstPass.{none-in-row, read-in-row, numbered-by, room-at}
 use Rattle.planner.proofs.ahead.value_in_row.Statement.{statement}
 use Rattle.planner.proofs.ahead.value_in_row.Tie as tie
 

@@ -3,7 +3,7 @@ use mathlib.Core.Path.{ap, _∙_}
 use native.Mathlib.Omega.{arith}
 use borrow.Author.Needs.{needs}
 use Rattle.planner.specs.Passes.{valueInRow}
-use Rattle.planner.proofs.Found.{arrived-in}
+use Rattle.planner.proofs.FirstPass.{arrived-in}
 use Rattle.planner.proofs.ahead.value_with.Statement.{statement}
 use Rattle.planner.proofs.ahead.value_with.Tie as tie
 

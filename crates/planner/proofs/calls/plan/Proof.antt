@@ -4,7 +4,7 @@ use native.Mathlib.Omega.{arith}
 use borrow.Author.Needs.{needs}
 use Rattle.model.proofs.Refusal.{accepted}
 use Rattle.model.specs.Counted.{counted}
-use Rattle.planner.proofs.Judged.{plan-accepted, refused-plan, filled-plan, sizes-small, place-is, first-within}
+use Rattle.planner.proofs.Refusals.{plan-accepted, refused-plan, filled-plan, sizes-small, place-is, first-within}
 use Rattle.planner.proofs.Right.{planned-filled}
 use Rattle.planner.proofs.calls.plan.Statement.{statement}
 use Rattle.planner.proofs.calls.plan.Tie as tie

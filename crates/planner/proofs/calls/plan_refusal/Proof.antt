@@ -1,50 +1,59 @@
--- `plan_refusal` meets its contract: the row call's refusal, or the values are too short for T+1 rows, or neither.
-use mathlib.Core.Path.{sym, _∙_}
-use native.Mathlib.Omega.{arith}
 use borrow.Author.Needs.{needs}
-use Rattle.model.specs.Counted.{counted}
-use Rattle.planner.proofs.Judged.{row-accepted, plan-refused, plan-short, plan-fits, sizes-small, place-is, last-row}
 use Rattle.planner.proofs.calls.plan_refusal.Statement.{statement}
 use Rattle.planner.proofs.calls.plan_refusal.Tie as tie
+use Rattle.planner.proofs.calls.plan_refusal.Reads as reads
+use Rattle.planner.proofs.calls.plan_refusal.Lts as lts
+use Rattle.planner.proofs.sizes.place.Reads as place-reads
+use Rattle.planner.proofs.sizes.sizes_of.Reads as sizes-of-reads
+use Rattle.sheets.proofs.sheet_refusal.Reads as sheet-refusal-reads
+use Rattle.value.proofs.fit.Reads as fit-reads
 
-row-refusal-requires : tie.Need-row-refusal-requires
-row-refusal-requires c κs = search needs
+-- src/calls.rt:74:9
+sheet-refusal-requires : tie.Need-sheet-refusal-requires
+sheet-refusal-requires c κs = search needs
 
+-- src/calls.rt:76:9
 returns : tie.Need-returns
-returns c =
-    let a = c .before .before .args in
-    plan-refused (counted (a .sheet)) (a .values-room) (a .plan-room) (c .before .row-refusal .ensures) (c .if1 .taken)
+returns c = ?
 
+-- src/calls.rt:78:9
 sizes-of-requires : tie.Need-sizes-of-requires
-sizes-of-requires c κs =
-    let a = c .before .before .args in
-    (c .before .before .pre, row-accepted (counted (a .sheet)) (a .plan-room) (sym (c .before .row-refusal .ensures) ∙ c .if1 .left) .0)
+sizes-of-requires c κs = search needs
 
+-- src/calls.rt:80:9
 place-requires : tie.Need-place-requires
-place-requires c κs =
-    let a = c .before .before .before .args in
-    let s = counted (a .sheet) in
-    let right = row-accepted s (a .plan-room) (sym (c .before .before .row-refusal .ensures) ∙ c .before .if1 .left) .0 in
-    let small = sizes-small s right (c .sizes-of .ensures) in
-    (small .0, omega (arith, small .1), omega (arith, small .0))
+place-requires c κs = ?
 
+-- src/calls.rt:79:9
+fit-requires : tie.Need-fit-requires
+fit-requires c κs = search needs
+
+-- src/calls.rt:83:9
 returns-2 : tie.Need-returns-2
-returns-2 c =
-    let a = c .before .before .before .before .before .args in
-    let s = counted (a .sheet) in
-    let place = place-is s (c .before .before .sizes-of .ensures) (s .horizon) (c .before .before .sizes-of .result .queues) (c .before .place .ensures) in
-    plan-short s (a .values-room) (a .plan-room) (sym (c .before .before .before .before .row-refusal .ensures) ∙ c .before .before .before .if1 .left)
-    (omega (arith, c .if2 .taken, place, c .before .before .sizes-of .ensures .queues-is, last-row s))
+returns-2 c = ?
 
+-- src/calls.rt:85:20
+place-requires-2 : tie.Need-place-requires-2
+place-requires-2 c κs = ?
+
+-- src/calls.rt:86:9
 returns-3 : tie.Need-returns-3
-returns-3 c =
-    let a = c .before .before .before .before .before .args in
-    let s = counted (a .sheet) in
-    let place = place-is s (c .before .before .sizes-of .ensures) (s .horizon) (c .before .before .sizes-of .result .queues) (c .before .place .ensures) in
-    plan-fits s (a .values-room) (a .plan-room) (sym (c .before .before .before .before .row-refusal .ensures) ∙ c .before .before .before .if1 .left)
-    (omega (arith, c .if2 .left, place, c .before .before .sizes-of .ensures .queues-is, last-row s))
+returns-3 c = ?
+
+-- src/calls.rt:70:1
+returns-4 : tie.Need-returns-4
+returns-4 c = ?
 
 pub plan-refusal-spec : {M : Type 1} → statement M
 plan-refusal-spec =
     tie.close
-    (tie.spec row-refusal-requires returns sizes-of-requires place-requires returns-2 returns-3)
+    (tie.spec
+    sheet-refusal-requires
+    returns
+    sizes-of-requires
+    place-requires
+    fit-requires
+    returns-2
+    place-requires-2
+    returns-3
+    returns-4)

@@ -3,7 +3,7 @@ use mathlib.Core.Path.{sym, _∙_}
 use native.Mathlib.Omega.{arith}
 use borrow.Author.Needs.{needs}
 use Rattle.model.specs.Counted.{counted}
-use Rattle.planner.proofs.Judged.{row-accepted, sizes-small, place-is, row-room, row-none, row-past, row-part}
+use Rattle.planner.proofs.Refusals.{row-accepted, sizes-small, place-is, row-room, row-none, row-past, row-part}
 use Rattle.planner.proofs.calls.row.Statement.{statement}
 use Rattle.planner.proofs.calls.row.Tie as tie
 

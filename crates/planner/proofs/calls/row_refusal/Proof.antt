@@ -3,7 +3,7 @@ use mathlib.Core.Path.{sym, _∙_}
 use native.Mathlib.Omega.{arith}
 use borrow.Author.Needs.{needs}
 use Rattle.model.specs.Counted.{counted}
-use Rattle.planner.proofs.Judged.{row-refused, row-short, row-fits, sizes-small, place-is}
+use Rattle.planner.proofs.Refusals.{row-refused, row-short, row-fits, sizes-small, place-is}
 use Rattle.planner.proofs.calls.row_refusal.Statement.{statement}
 use Rattle.planner.proofs.calls.row_refusal.Tie as tie
 

@@ -2,7 +2,7 @@
 use borrow.Author.Needs.{needs}
 use mathlib.Core.Path.{sym, _∙_}
 use Rattle.value.specs.Narrow.{valueOf}
-use Rattle.planner.proofs.Prices.{better-taken, better-left}
+use Rattle.planner.proofs.SecondPass.{better-taken, better-left}
 use Rattle.planner.proofs.choose.better.Statement.{statement}
 use Rattle.planner.proofs.choose.better.Tie as tie
 
@@ -12,13 +12,13 @@ less-requires c κs = search needs
 returns : tie.Need-returns
 returns c =
     let a = c .before .before .args in
-    better-taken (a .best .speed) (valueOf (a .best .value)) (a .speed) (valueOf (a .price))
+    better-taken (a .best .speed) (valueOf (a .best .value)) (a .speed) (valueOf (a .cost))
     (sym (c .before .less .ensures) ∙ c .if1 .taken)
 
 returns-2 : tie.Need-returns-2
 returns-2 c =
     let a = c .before .before .args in
-    better-left (a .best .speed) (valueOf (a .best .value)) (a .speed) (valueOf (a .price))
+    better-left (a .best .speed) (valueOf (a .best .value)) (a .speed) (valueOf (a .cost))
     (sym (c .before .less .ensures) ∙ c .if1 .left)
 
 pub better-spec : {M : Type 1} → statement M

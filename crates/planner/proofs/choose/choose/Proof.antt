@@ -10,8 +10,8 @@ use Rattle.queues.proofs.Places.{length-in}
 use Rattle.sheets.proofs.Places.{speed-counts}
 use Rattle.value.specs.Narrow.{valueOf}
 use Rattle.planner.specs.Passes.{IsChoice}
-use Rattle.planner.proofs.Prices.{leastOf, least-none, least-more, least-whole}
-use Rattle.planner.proofs.Prices.{ready-accepted, ready-ranges, price-asked, price-told}
+use Rattle.planner.proofs.SecondPass.{leastOf, least-none, least-more, least-whole}
+use Rattle.planner.proofs.SecondPass.{ready-accepted, ready-ranges, cost-asked, cost-told}
 use Rattle.planner.proofs.choose.choose.Statement.{statement}
 use Rattle.planner.proofs.choose.choose.Tie as tie
 
@@ -44,13 +44,13 @@ mul-one c = omega (arith, ready-accepted (c .before .before .before .before .pre
 element-copy-out-one : tie.Need-element-copy-out-one Inv-loop μ-loop
 element-copy-out-one c = omega (arith, ready-accepted (c .before .before .before .before .pre .0) .ranged .speeds-high)
 
-price-requires : tie.Need-price-requires Inv-loop μ-loop
-price-requires c κs =
+cost-requires : tie.Need-cost-requires Inv-loop μ-loop
+cost-requires c κs =
     let start = c .before .before .before .before .before in
     let a = start .args in
     let place = c .before .before .loop .place in
     let low = c .before .loop-test .taken in
-    price-asked (start .pre .0) (start .pre .1) (queueIn (a .sizes .bound) (a .queue)) (start .pre .2) (long start) place low
+    cost-asked (start .pre .0) (start .pre .1) (queueIn (a .sizes .bound) (a .queue)) (start .pre .2) (long start) place low
     (getD (a .t2 .speeds) place zeroSpeed) (speed-counts (a .t2) place low)
 
 better-requires : tie.Need-better-requires Inv-loop μ-loop
@@ -72,8 +72,8 @@ loop-again c =
     let one = speed-counts (a .t2) (l .place) low in (
       omega arith,
       least-more (counted (a .t2)) (a .slot .left) w (l .place) low (ap (λ (x : Speed). x .speed) one)
-          (price-told (start .pre .0) (start .pre .1) w (start .pre .2) (long start) (l .place) low
-          (getD (a .t2 .speeds) (l .place) zeroSpeed) one (c .before .price .ensures))
+          (cost-told (start .pre .0) (start .pre .1) w (start .pre .2) (long start) (l .place) low
+          (getD (a .t2 .speeds) (l .place) zeroSpeed) one (c .before .cost .ensures))
           (l .inv .1) (c .better .ensures),
     )
 
@@ -94,7 +94,7 @@ choose-spec =
     cast-one
     mul-one
     element-copy-out-one
-    price-requires
+    cost-requires
     better-requires
     add-place
     loop-less

@@ -3,8 +3,8 @@ use Prim.Native.Nat.{_≤_, _-_}
 use native.Mathlib.Omega.{arith}
 use Rattle.model.specs.Counted.{counted}
 use Rattle.planner.specs.Passes.{PlannedTo}
-use Rattle.planner.proofs.Prices.{filled-none, filled-more, filled-whole}
-use Rattle.planner.proofs.Prices.{ready-ranges, number-low, queue-bearable, choose-asked, choose-told, speed-fits}
+use Rattle.planner.proofs.SecondPass.{filled-none, filled-more, filled-whole}
+use Rattle.planner.proofs.SecondPass.{ready-ranges, number-low, queue-bearable, choose-asked, choose-told, speed-fits}
 use Rattle.planner.proofs.choose.fill_row.Statement.{statement}
 use Rattle.planner.proofs.choose.fill_row.Tie as tie
 

@@ -1,5 +1,5 @@
 -- `slot_with` meets its contract: the slot's row stands so many rows before the end row, one before the next.
-use mathlib.Core.Path.{refl, sym, _∙_}
+use mathlib.Core.Path.{refl}
 use borrow.Author.Needs.{needs}
 use Rattle.planner.proofs.Backward.{row-next, row-back}
 use Rattle.planner.proofs.rows.slot_with.Statement.{statement}
@@ -31,8 +31,8 @@ returns c =
       refl,
       refl,
       row-next (a .horizon) (a .left) (a .queues) _ (start .pre .2) first _ (c .before .place2 .ensures),
-      c .place3 .ensures ∙ sym first,
       row-back (a .horizon) (a .left) (a .queues) _ (start .pre .2) first,
+      row-back (a .horizon) (a .left) (a .queues) _ (start .pre .2) (c .place3 .ensures),
     )
 
 pub slot-with-spec : {M : Type 1} → statement M

@@ -8,7 +8,7 @@ use Rattle.model.specs.Counted.{counted, M}
 use Rattle.model.specs.Queue.{queueCount}
 use Rattle.model.specs.Refusal.{N}
 use Rattle.model.proofs.Refusal.{fields-right}
-use Rattle.planner.proofs.Found.{ranges-of, one-fewer}
+use Rattle.planner.proofs.FirstPass.{ranges-of, one-fewer}
 use Rattle.planner.proofs.sizes.sizes_of.Statement.{statement}
 use Rattle.planner.proofs.sizes.sizes_of.Tie as tie
 

@@ -35,7 +35,7 @@ use Rattle.planner.specs.declared.sizes.Slot.{Slot}
 
 -- what a bearable queue is worth, and what a row says of a queue
 
--- what is there only where a test passes, where it passes
+-- a test that passes lets a value through
 only-passed : (b : Bool) (r : Option ℕ) → T b → only b r ≡ r
 only-passed true r t = refl
 only-passed false r t = absurd t
@@ -134,7 +134,7 @@ module _ (s : Counted) (sizes : Sizes) (z : Sized s sizes) where
       ap (λ (m : ℕ). queueCount m (pred (sizes .bound))) (z .largest-is) ∙
       (ap (λ (D : ℕ). queueCount (M s) (pred D)) (z .bound-is) ∙ sym (z .after-is))
 
-  -- by them the queue with a number is the same queue after a slot
+  -- by them the queue after a slot that has a number is the sheet's
   pub sized-queue-after : (i : ℕ) → kept (getD (bearableQueues (sizes .largest) (pred (sizes .bound))) i []) ≡ queueAfter s i
   sized-queue-after i =
       ap (λ (m : ℕ). kept (getD (bearableQueues m (pred (sizes .bound))) i [])) (z .largest-is) ∙

@@ -36,12 +36,12 @@ use Rattle.value.specs.Fills.{Fills, numberAt}
 use Rattle.value.specs.Width.{readAt, Below, lessThan}
 use Rattle.value.specs.Narrow.{width, valueOf}
 use Rattle.value.proofs.Filling.{read-local, number-local, fills-none, fills-more, number-stored}
-use Rattle.planner.specs.Passes.{valueWith, choiceWith, aheadTo, aheadOf, valueInRow, AheadRow, priceIn}
+use Rattle.planner.specs.Passes.{valueWith, choiceWith, aheadTo, aheadOf, valueInRow, AheadRow, costIn}
 use Rattle.planner.specs.Passes.{byteOf, IsChoice, IsBetter, Ready, PlannedTo, Planned}
 use Rattle.planner.specs.declared.sizes.Sizes.{Sizes}
 use Rattle.planner.specs.declared.sizes.Slot.{Slot}
-use Rattle.planner.proofs.Fits.{price-fits}
-use Rattle.planner.proofs.Found.{value-chosen, not-bearable-none, one-fewer, sized-ranges, sized-bound, sized-queues, sized-after}
+use Rattle.planner.proofs.Fits.{cost-fits}
+use Rattle.planner.proofs.FirstPass.{value-chosen, not-bearable-none, one-fewer, sized-ranges, sized-bound, sized-queues, sized-after}
 
 -- what is ahead after a slot
 
@@ -55,7 +55,7 @@ sum-none f (suc n) h e = ap (plus (sumOrNone f n)) (e n) ∙ absorbed (sumOrNone
     absorbed none = refl
     absorbed (some v) = refl
 
--- nothing is ahead of a queue that never falls and is not bearable, since no arrival makes it bearable
+-- what is ahead of a queue that never falls and is not bearable is none, since no arrival makes it bearable
 not-bearable-ahead : (s : Counted) → 1 ≤ s .jobCount → (k : ℕ) (v : Queue) → NeverFalls v → bearable (M s) v ≡ false → aheadOf s k v ≡ none
 unfolding aheadTo
 not-bearable-ahead s jobs k v rises e =
@@ -101,13 +101,13 @@ module _ (s : Counted) (a : Accepted s) where
           (not-bearable-ahead s (a .ranged .jobs-low) k (run w speed) (run-never-falls w speed (λ u low. bearable-at (M s) w t u low .0))
           (run-bearable (M s) w speed (pred (s .bound)) whole h ∙ e))
 
-  -- the price that the code works out is the recursion's
-  pub price-is : (k : ℕ) (l : List ℕ) → AheadRow s k l → (w : Queue) → T (bearable (M s) w) → length w ≡ s .bound → (j : ℕ) →
+  -- the cost that the code works out is the recursion's
+  pub cost-is : (k : ℕ) (l : List ℕ) → AheadRow s k l → (w : Queue) → T (bearable (M s) w) → length w ≡ s .bound → (j : ℕ) →
       j < s .speedCount →
-      priceIn (M s) (s .bound) l (some (W s ^ suc k)) w (speedAt s j) (energyAt s j) ≡
+      costIn (M s) (s .bound) l (some (W s ^ suc k)) w (speedAt s j) (energyAt s j) ≡
       priced (processOf s) (s .jobCount) (weightAt s) k (valueWith s k) w (speedAt s j)
-  unfolding priceIn priced processOf nextQueue aheadTo W
-  price-is k l row w t long j h = go (leb (total w 1) (speedAt s j)) refl
+  unfolding costIn priced processOf nextQueue aheadTo W
+  cost-is k l row w t long j h = go (leb (total w 1) (speedAt s j)) refl
     where
       after : Queue
       after = run w (speedAt s j)
@@ -123,11 +123,11 @@ module _ (s : Counted) (a : Accepted s) where
       go false e = refl
 
   -- and it stays below the limit
-  pub price-below-limit : (k : ℕ) (l : List ℕ) → AheadRow s k l → (w : Queue) → T (bearable (M s) w) → length w ≡ s .bound → (j : ℕ) →
+  pub cost-below-limit : (k : ℕ) (l : List ℕ) → AheadRow s k l → (w : Queue) → T (bearable (M s) w) → length w ≡ s .bound → (j : ℕ) →
       j < s .speedCount → k < s .horizon →
-      Below (width .limit) (priceIn (M s) (s .bound) l (some (W s ^ suc k)) w (speedAt s j) (energyAt s j))
-  unfolding priceIn
-  price-below-limit k l row w t long j h left = go (leb (total w 1) (speedAt s j)) refl
+      Below (width .limit) (costIn (M s) (s .bound) l (some (W s ^ suc k)) w (speedAt s j) (energyAt s j))
+  unfolding costIn
+  cost-below-limit k l row w t long j h left = go (leb (total w 1) (speedAt s j)) refl
     where
       after : Queue
       after = run w (speedAt s j)
@@ -137,7 +137,7 @@ module _ (s : Counted) (a : Accepted s) where
           (only b (plus (valueInRow (M s) l 0 (queueIn (pred (s .bound)) after)) (times (energyAt s j) (some (W s ^ suc k)))))
       go true e =
           subst (λ (r : Option ℕ). Below (width .limit) (plus r (times (energyAt s j) (some (W s ^ suc k)))))
-          (sym (ahead-found k l row w t long (speedAt s j) (leb-true (total w 1) (speedAt s j) e))) (price-fits s a k after j left h)
+          (sym (ahead-found k l row w t long (speedAt s j) (leb-true (total w 1) (speedAt s j) e))) (cost-fits s a k after j left h)
       go false e = tt
 
 -- what a speed costs, from the six places that the queue stands in
@@ -148,16 +148,16 @@ positions-in n w few long = take-take n 6 (w ++ replicate 6 0) few ∙ take-appe
 
 module _ (largest D : ℕ) (ahead : List ℕ) (scale : Option ℕ) (places : List ℕ) (speed energy : ℕ) (low : 1 ≤ D) where
   -- none where the speed is below what stands in the first place
-  pub price-none : speed < getD places 0 0 → priceIn largest D ahead scale (queueIn D places) speed energy ≡ none
-  unfolding priceIn
-  price-none h = rw (total-in D places 1 low, lt-leb (getD places 0 0) speed h)
+  pub cost-none : speed < getD places 0 0 → costIn largest D ahead scale (queueIn D places) speed energy ≡ none
+  unfolding costIn
+  cost-none h = rw (total-in D places 1 low, lt-leb (getD places 0 0) speed h)
 
   -- else the scaled energy and what the buffer says of the places that are left after the slot
-  pub price-some : D ≤ 6 → length places ≡ 6 → getD places 0 0 ≤ speed → {left : List ℕ} {r : Option ℕ} →
+  pub cost-some : D ≤ 6 → length places ≡ 6 → getD places 0 0 ≤ speed → {left : List ℕ} {r : Option ℕ} →
       left ≡ placesOf (run (queueIn D places) speed) → r ≡ valueInRow largest ahead 0 (queueIn (D - 1) left) →
-      priceIn largest D ahead scale (queueIn D places) speed energy ≡ plus r (times energy scale)
-  unfolding priceIn
-  price-some few six h {left = left} e found =
+      costIn largest D ahead scale (queueIn D places) speed energy ≡ plus r (times energy scale)
+  unfolding costIn
+  cost-some few six h {left = left} e found =
       ap (λ (b : Bool). only b (plus (valueInRow largest ahead 0 (queueIn (pred D) after)) (times energy scale)))
       (ap (λ (n : ℕ). leb n speed) (total-in D places 1 low) ∙ le-leb (getD places 0 0) speed h) ∙
       ap (λ (q : Queue). plus (valueInRow largest ahead 0 q) (times energy scale)) (sym same) ∙
@@ -180,8 +180,8 @@ room-fewer M D places h = rw (zero-add, one-fewer D) h
 -- the least over the speeds
 
 -- a speed that costs less than the least so far is the least
-pub better-taken : (before : ℕ) (r : Option ℕ) (speed : ℕ) (price : Option ℕ) → lessThan price r ≡ true →
-    IsBetter before r speed price speed price
+pub better-taken : (before : ℕ) (r : Option ℕ) (speed : ℕ) (cost : Option ℕ) → lessThan cost r ≡ true →
+    IsBetter before r speed cost speed cost
 unfolding cheaper
 better-taken before r speed none e c i = absurd (subst T (sym e) tt)
 better-taken before r speed (some v) e nothing i = record { speed-is = refl; value-is = refl }
@@ -191,8 +191,8 @@ better-taken before r speed (some v) e (chosen b u) i =
     (record { speed-is = refl; value-is = refl })
 
 -- any other leaves the least as it is
-pub better-left : (before : ℕ) (r : Option ℕ) (speed : ℕ) (price : Option ℕ) → lessThan price r ≡ false →
-    IsBetter before r speed price before r
+pub better-left : (before : ℕ) (r : Option ℕ) (speed : ℕ) (cost : Option ℕ) → lessThan cost r ≡ false →
+    IsBetter before r speed cost before r
 unfolding cheaper
 better-left before r speed none e c i = i
 better-left before r speed (some v) e nothing i = absurd (subst T (ap (lessThan (some v)) (sym (i .value-is)) ∙ e) tt)
@@ -215,8 +215,8 @@ module _ (s : Counted) (k : ℕ) (w : Queue) where
   least-none e = record { speed-is = refl; value-is = e }
 
   -- one speed more
-  pub least-more : (j : ℕ) → j < s .speedCount → {before speed a : ℕ} {r q price : Option ℕ} → speedAt s j ≡ a →
-      price ≡ costOf s k w a → IsChoice (leastOf s k w j) before r → IsBetter before r a price speed q →
+  pub least-more : (j : ℕ) → j < s .speedCount → {before speed a : ℕ} {r q cost : Option ℕ} → speedAt s j ≡ a →
+      cost ≡ costOf s k w a → IsChoice (leastOf s k w j) before r → IsBetter before r a cost speed q →
       IsChoice (leastOf s k w (j + 1)) speed q
   unfolding best speedsOf
   least-more j h {speed = speed} {a = a} {q = q} same cost so-far more =
@@ -293,33 +293,33 @@ module _ {counts : List ℕ} {s : Counted} {sizes : Sizes} {slot : Slot} (ready 
     sheet-long = long ∙ ready .prepared .sized .bound-is
 
     -- the code's sizes and scale are the sheet's
-    price-same : priceIn (sizes .largest) (sizes .bound) ahead (valueOf (slot .scale)) w (one .speed) (one .energy) ≡
-        priceIn (M s) (s .bound) ahead (some (W s ^ suc (slot .left))) w (speedAt s j) (energyAt s j)
-    price-same = cc (ready .prepared .sized .largest-is, ready .prepared .sized .bound-is, ready .in-plan .scale-is, e)
+    cost-same : costIn (sizes .largest) (sizes .bound) ahead (valueOf (slot .scale)) w (one .speed) (one .energy) ≡
+        costIn (M s) (s .bound) ahead (some (W s ^ suc (slot .left))) w (speedAt s j) (energyAt s j)
+    cost-same = cc (ready .prepared .sized .largest-is, ready .prepared .sized .bound-is, ready .in-plan .scale-is, e)
 
     -- and so are the queues after a slot as many
     count-same : 0 + queueCount (M s) (pred (s .bound)) ≡ queueCount (sizes .largest) (pred (sizes .bound))
     count-same = zero-add _ ∙ sym (sized-after s sizes (ready .prepared .sized) ∙ ready .prepared .sized .after-is)
 
-    -- what `price` asks
-    pub price-asked : HoldsCounts counts × Ranges (sizes .largest) (sizes .bound) × (1 ≤ sizes .bound) ×
+    -- what `cost` asks
+    pub cost-asked : HoldsCounts counts × Ranges (sizes .largest) (sizes .bound) × (1 ≤ sizes .bound) ×
         (queueCount (sizes .largest) (pred (sizes .bound)) * width .places ≤ length ahead) ×
-        Below (width .limit) (priceIn (sizes .largest) (sizes .bound) ahead (valueOf (slot .scale)) w (one .speed) (one .energy))
-    price-asked = (
+        Below (width .limit) (costIn (sizes .largest) (sizes .bound) ahead (valueOf (slot .scale)) w (one .speed) (one .energy))
+    cost-asked = (
       ready .prepared .holds,
       ready-ranges,
       sized-bound s sizes (ready .prepared .sized) (ready-accepted .ranged),
       subst (λ (n : ℕ). n * width .places ≤ length ahead) count-same (row .room),
-      subst (λ (r : Option ℕ). Below (width .limit) r) (sym price-same)
-          (price-below-limit s ready-accepted (slot .left) ahead row w sheet-bearable sheet-long j h (ready .in-plan .left-low)),
+      subst (λ (r : Option ℕ). Below (width .limit) r) (sym cost-same)
+          (cost-below-limit s ready-accepted (slot .left) ahead row w sheet-bearable sheet-long j h (ready .in-plan .left-low)),
     )
 
     -- what it tells: the recursion's cost of the speed
-    pub price-told : {r : Option ℕ} →
-        r ≡ priceIn (sizes .largest) (sizes .bound) ahead (valueOf (slot .scale)) w (one .speed) (one .energy) →
+    pub cost-told : {r : Option ℕ} →
+        r ≡ costIn (sizes .largest) (sizes .bound) ahead (valueOf (slot .scale)) w (one .speed) (one .energy) →
         r ≡ costOf s (slot .left) w (one .speed)
-    price-told told =
-        told ∙ price-same ∙ price-is s ready-accepted (slot .left) ahead row w sheet-bearable sheet-long j h ∙
+    cost-told told =
+        told ∙ cost-same ∙ cost-is s ready-accepted (slot .left) ahead row w sheet-bearable sheet-long j h ∙
         ap (λ (x : Speed). costOf s (slot .left) w (x .speed)) e
 
   -- a queue by its number

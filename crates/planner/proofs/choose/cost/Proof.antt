@@ -1,4 +1,4 @@
--- `price` meets its contract: none where the speed is below w(1), else what the buffer says of the queue after the slot and the scaled
+-- `cost` meets its contract: none where the speed is below w(1), else what the buffer says of the queue after the slot and the scaled
 -- energy.
 use borrow.Author.Needs.{needs}
 use Prim.Native.Nat.{ℕ}
@@ -7,10 +7,10 @@ use mathlib.Core.Option.{Option}
 use native.Mathlib.Omega.{arith}
 use Rattle.value.specs.Narrow.{width, valueOf}
 use Rattle.value.specs.Width.{Below}
-use Rattle.planner.proofs.Found.{ranges-fewer}
-use Rattle.planner.proofs.Prices.{price-none, price-some, room-fewer}
-use Rattle.planner.proofs.choose.price.Statement.{statement}
-use Rattle.planner.proofs.choose.price.Tie as tie
+use Rattle.planner.proofs.FirstPass.{ranges-fewer}
+use Rattle.planner.proofs.SecondPass.{cost-none, cost-some, room-fewer}
+use Rattle.planner.proofs.choose.cost.Statement.{statement}
+use Rattle.planner.proofs.choose.cost.Tie as tie
 
 array-read-if1 : tie.Need-array-read-if1
 array-read-if1 c = search needs
@@ -24,7 +24,7 @@ returns c =
     let a = start .args in
     c .none .ensures ∙
     sym
-    (price-none (a .sizes .largest) (a .sizes .bound) (a .ahead .now) (valueOf (a .scale)) (a .t5) (a .one .speed) (a .one .energy)
+    (cost-none (a .sizes .largest) (a .sizes .bound) (a .ahead .now) (valueOf (a .scale)) (a .t5) (a .one .speed) (a .one .energy)
     (start .pre .2) (c .before .if1 .taken))
 
 after-requires : tie.Need-after-requires
@@ -44,7 +44,7 @@ add-requires c κs =
     let start = c .before .before .before .before .before .before in
     let a = start .args in
     subst (λ (r : Option ℕ). Below (width .limit) r)
-    (price-some (a .sizes .largest) (a .sizes .bound) (a .ahead .now) (valueOf (a .scale)) (a .t5) (a .one .speed) (a .one .energy)
+    (cost-some (a .sizes .largest) (a .sizes .bound) (a .ahead .now) (valueOf (a .scale)) (a .t5) (a .one .speed) (a .one .energy)
     (start .pre .2) (start .pre .1 .bound-high) (omega arith) (c .before .before .before .if1 .left)
     (c .before .before .after .ensures) (c .value-in-row .ensures))
     (start .pre .4)
@@ -55,12 +55,12 @@ returns-2 c =
     let a = start .args in
     c .add .ensures ∙
     sym
-    (price-some (a .sizes .largest) (a .sizes .bound) (a .ahead .now) (valueOf (a .scale)) (a .t5) (a .one .speed) (a .one .energy)
+    (cost-some (a .sizes .largest) (a .sizes .bound) (a .ahead .now) (valueOf (a .scale)) (a .t5) (a .one .speed) (a .one .energy)
     (start .pre .2) (start .pre .1 .bound-high) (omega arith) (c .before .before .before .before .if1 .left)
     (c .before .before .before .after .ensures) (c .before .value-in-row .ensures))
 
-pub price-spec : {M : Type 1} → statement M
-price-spec =
+pub cost-spec : {M : Type 1} → statement M
+cost-spec =
     tie.close
     (tie.spec
     array-read-if1
