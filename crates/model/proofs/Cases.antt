@@ -3,17 +3,17 @@
 use Prim.Native.Nat.{ℕ, zero, suc, pred, _-_, _<_}
 use mathlib.Core.Path.{_≡_, refl, sym, ap, _∙_, subst, fun-ext}
 use mathlib.Core.Bool.{Bool, true, false, _&&_}
-use mathlib.Core.List.{List, [], _∷_}
+use mathlib.Core.List.{List, [], _∷_, _++_}
 use mathlib.Core.Option.{Option, none, some, Option·getD}
 use native.Mathlib.Omega.{arith}
 use lib.Dec.{T, eqb, ltb, eqb→eq, ltb→lt}
 use lib.ListN.{length, getD}
 use Rattle.process.specs.Sums.{same}
-use Rattle.process.specs.Recursion.{priced, value, plan}
+use Rattle.process.specs.Recursion.{priced, plan}
 use Rattle.process.specs.Ways.{IsValue, IsCost, IsFirst}
 use Rattle.process.proofs.Sums.{same-true}
 use Rattle.process.proofs.Value.{value-is, first-is, cost-is}
-use Rattle.model.specs.Cases.{Case, planned, valued, decides, answers, costs, refuses, reads, views, counts, fields, steps, tells, numbers, lists, tests, Holds, AllHold, cases}
+use Rattle.model.specs.Cases.{Case, planned, valued, decides, answers, costs, refuses, reads, views, counts, fields, steps, tells, numbers, lists, tests, Holds, AllHold, casesOfA, casesOfHopeless, casesP, cases}
 use Rattle.model.specs.Counted.{Counted, counted, speedAt, weightAt, onSheet, M}
 use Rattle.model.specs.Plan.{processOf, IsValueAt, IsPlanByte, queueAt, valueIn, number12}
 use Rattle.model.specs.Queue.{Queue, emptyQueue, bearable, continuationCount}
@@ -25,9 +25,10 @@ use Rattle.model.specs.declared.Job.{Job}
 use Rattle.model.specs.declared.Sheet.{Sheet}
 use Rattle.model.specs.declared.Speed.{Speed}
 use Rattle.model.specs.Tests.{check, everywhere}
-use Rattle.model.proofs.Computed.{sameOption, sameAnswer, sameState, sameBy, sameSpeed, sameJob, sameCounted, whole, sameBool, quickN, orderly, valueFor, byteTest, decidesTest, costTest, rowTest, test, firstFailing, cases-pass}
+use Rattle.model.proofs.Computed.{sameOption, sameAnswer, sameState, sameBy, sameSpeed, sameJob, sameCounted, whole, sameBool, quickN, orderly, byteTest, decidesTest, costTest, rowTest, test, firstFailing, cases-pass}
 use Rattle.model.proofs.Counted.{Climbs, climbs-rise, on-sheet}
 use Rattle.model.proofs.Queues.{queue-count}
+use Rattle.model.proofs.Recursion.{valueFor}
 use Rattle.model.proofs.Tests.{and-left, and-right, check-zero, then-left, then-right, everywhere-at}
 
 -- several tests together
@@ -274,3 +275,28 @@ all-sound place (c ∷ rest) e =
 -- all the cases hold: those of document 01 that are marked P, and ours
 pub cases-hold : AllHold cases
 cases-hold = all-sound 0 cases cases-pass
+
+-- where two lists of cases together hold, the first does
+pub holds-first : (l m : List Case) → AllHold (l ++ m) → AllHold l
+holds-first [] m all = tt
+holds-first (c ∷ l) m all = (all .0, holds-first l m (all .1))
+
+-- and so does the second
+pub holds-rest : (l m : List Case) → AllHold (l ++ m) → AllHold m
+holds-rest [] m all = all
+holds-rest (c ∷ l) m all = holds-rest l m (all .1)
+
+-- the cases marked P hold
+P-holds : AllHold casesP
+unfolding cases
+P-holds = holds-first casesP _ cases-hold
+
+-- the cases of sheet A's plan hold
+pub A-holds : AllHold casesOfA
+unfolding casesP
+A-holds = holds-first casesOfA _ P-holds
+
+-- and those of the sheet that gives 12
+pub hopeless-holds : AllHold casesOfHopeless
+unfolding casesP
+hopeless-holds = holds-first casesOfHopeless _ (holds-rest casesOfA _ P-holds)

@@ -10,7 +10,7 @@ use lib.ListN.{length, getD}
 use Rattle.process.specs.Sums.{sum, same}
 use Rattle.process.specs.Recursion.{sumOrNone, cheaper, best, priced, choice, value, plan}
 use Rattle.model.specs.Bytes.{codeIn, speedBytes, jobBytes, sheetBytes, writeRefusal, write}
-use Rattle.model.specs.Cases.{Case, planned, valued, decides, answers, costs, refuses, reads, views, counts, fields, steps, tells, numbers, lists, tests, casesP, casesOfPlans, casesOfQueues, casesOfRefusals, casesOfBytes, casesOfSteps, cases}
+use Rattle.model.specs.Cases.{Case, planned, valued, decides, answers, costs, refuses, reads, views, counts, fields, steps, tells, numbers, lists, tests, casesOfA, casesOfHopeless, casesP, casesOfPlans, casesOfQueues, casesOfRefusals, casesOfBytes, casesOfSteps, cases}
 use Rattle.model.specs.Counted.{Counted, counted, speedAt, weightAt, speedsOf, onSheet, energyOf, W, M, greatestEnergy, G}
 use Rattle.model.specs.Plan.{nextQueue, processOf, admissible, queueAt, valueIn, number12, planRefusal, rowRefusal, row}
 use Rattle.model.specs.Queue.{Queue, emptyQueue, bearable, bearableIn, run, arrive, eachTotal, continuations, bearableQueues, queueCount, placeIn, numberOf, continuationCount}
@@ -22,6 +22,7 @@ use Rattle.model.specs.declared.Job.{Job}
 use Rattle.model.specs.declared.Sheet.{Sheet}
 use Rattle.model.specs.declared.Speed.{Speed}
 use Rattle.model.specs.Tests.{check, _then_, inOrder, inTurn, everywhere, anywhere, firstPlace, greatest, listed}
+use Rattle.model.proofs.Recursion.{valueFor}
 
 -- tests of equality
 
@@ -85,9 +86,6 @@ orderly s = ltb 0 (s .jobCount) && everywhere (λ j. ltb (speedAt s j) (speedAt 
 
 -- the recursion's value and plan for a sheet, k slots from its end
 
-abbrev pub valueFor : Counted → ℕ → Queue → Option ℕ
-valueFor s k w = value (processOf s) (s .jobCount) (weightAt s) k w
-
 unfoldable pub byteTest : Counted → ℕ → Queue → Option ℕ → ℕ → Bool
 byteTest s k w none byte = eqb byte 255
 byteTest s zero w (some v) byte = false
@@ -135,5 +133,5 @@ firstFailing place (c ∷ rest) = check (test c) (suc place) then firstFailing (
 
 -- the computation: every case passes its test
 pub cases-pass : firstFailing 0 cases ≡ 0
-unfolding cases casesP casesOfPlans casesOfQueues casesOfRefusals casesOfBytes casesOfSteps firstFailing test quickN orderly byteTest decidesTest costTest rowTest sameOption sameAnswer sameState sameBy sameSpeed sameJob sameCounted sameBool sum sumOrNone cheaper best priced choice value plan codeIn speedBytes jobBytes sheetBytes writeRefusal write speedsOf onSheet energyOf W M greatestEnergy G nextQueue processOf admissible planRefusal rowRefusal row bearable bearableIn run arrive eachTotal continuations bearableQueues queueCount placeIn numberOf continuationCount numberIn readSpeed readSpeeds readSpeedTable readJob readJobs readJobTable judged readCounted speedsRefusal jobsRefusal fieldsRefusal refusal9 limitsRefusal N refusalGiven sheetRefusal stateRight startRefusal start planByte byteRight speedRefusal speed isEntry moved advanceRefusal advance inOrder inTurn everywhere anywhere firstPlace greatest listed same
+unfolding cases casesP casesOfA casesOfHopeless casesOfPlans casesOfQueues casesOfRefusals casesOfBytes casesOfSteps firstFailing test quickN orderly byteTest decidesTest costTest rowTest sameOption sameAnswer sameState sameBy sameSpeed sameJob sameCounted sameBool sum sumOrNone cheaper best priced choice value plan codeIn speedBytes jobBytes sheetBytes writeRefusal write speedsOf onSheet energyOf W M greatestEnergy G nextQueue processOf admissible planRefusal rowRefusal row bearable bearableIn run arrive eachTotal continuations bearableQueues queueCount placeIn numberOf continuationCount numberIn readSpeed readSpeeds readSpeedTable readJob readJobs readJobTable judged readCounted speedsRefusal jobsRefusal fieldsRefusal refusal9 limitsRefusal N refusalGiven sheetRefusal stateRight startRefusal start planByte byteRight speedRefusal speed isEntry moved advanceRefusal advance inOrder inTurn everywhere anywhere firstPlace greatest listed same
 cases-pass = refl

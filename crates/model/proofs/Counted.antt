@@ -15,12 +15,12 @@ use Rattle.model.proofs.Tests.{anywhere-at, anywhere-one, greatest-at, 
 -- the sheet's speeds as a list
 
 -- the list has as many speeds as the sheet
-length-speeds : (s : Counted) → length (speedsOf s) ≡ s .speedCount
+pub length-speeds : (s : Counted) → length (speedsOf s) ≡ s .speedCount
 unfolding speedsOf
 length-speeds s = length-listed (speedAt s) (s .speedCount)
 
 -- at each place of the list stands the speed of the sheet
-at-speeds : (s : Counted) (j : ℕ) → j < s .speedCount → getD (speedsOf s) j 0 ≡ speedAt s j
+pub at-speeds : (s : Counted) (j : ℕ) → j < s .speedCount → getD (speedsOf s) j 0 ≡ speedAt s j
 unfolding speedsOf
 at-speeds s j h = getD-listed (speedAt s) (s .speedCount) j 0 h
 

@@ -3,6 +3,8 @@ pub mod Tests
 pub mod Counted
 pub mod Queues
 pub mod Refusal
+pub mod Recursion
+pub mod Rooms
 pub mod Readers
 pub mod Codes
 pub mod RoundTrip

@@ -1,8 +1,10 @@
 -- What an accepted sheet gives (specs/Refusal.antt): the ranges of document 01 as plain facts. Proofs that need only the ranges use these
 -- facts, and not the order in which a sheet is tested.
-use Prim.Native.Nat.{ℕ, zero, suc, pred, _*_, _^_, _≤_, _<_}
-use mathlib.Core.Path.{_≡_, ap}
+use Prim.Native.Nat.{ℕ, zero, suc, pred, _*_, _^_, _≤_, _<_, zero-le}
+use mathlib.Core.Path.{_≡_, refl, sym, ap}
 use mathlib.Core.Bool.{Bool, true, false, cond, _&&_}
+use mathlib.Core.Logic.{_⊎_, inl, inr}
+use native.Mathlib.Nat.{eq-or-lt-of-le}
 use native.Mathlib.Omega.{arith}
 use borrow.Author.Tests.{ne-eqb}
 use lib.Dec.{T, leb, ltb, eqb, leb→le, ltb→lt, eqb→eq}
@@ -10,6 +12,7 @@ use Rattle.process.specs.Sums.{sum}
 use Rattle.process.specs.Pairing.{Rising}
 use Rattle.process.proofs.Sums.{sum-more, sum-upto}
 use Rattle.model.specs.Counted.{Counted, speedAt, energyAt, weightAt, sizeAt, deadlineAt, speedsOf, W, M, greatestEnergy, G}
+use Rattle.model.specs.Queue.{queueCount}
 use Rattle.model.specs.Refusal.{boundRight, speedCountRight, speedRight, energyRight, horizonRight, jobCountRight, weightRight, sizeRight, deadlineRight, speedsRefusal, jobsRefusal, fieldsRefusal, refusal9, limitsRefusal, refusalGiven, sheetRefusal, valueLimit, N}
 use Rattle.model.specs.Tests.{check, _then_, within}
 use Rattle.model.proofs.Queues.{at-least-two}
@@ -136,6 +139,11 @@ pub M-high : (s : Counted) → Ranged s → M s ≤ 8
 unfolding M
 M-high s r = greatest-upto (speedAt s) (s .speedCount) 8 (r .speed-high)
 
+-- N is how many bearable queues there are
+pub N-is : (s : Counted) → N s ≡ queueCount (M s) (s .bound)
+unfolding N
+N-is s = refl
+
 -- N is at least 2, so that an empty row always means that there is none
 pub N-low : (s : Counted) → Ranged s → 2 ≤ N s
 unfolding N
@@ -151,6 +159,22 @@ pub G-some : (s : Counted) → (greatestEnergy s ≡ 0 → ⊥) → G s ≡ grea
 unfolding G
 G-some s h = ap (λ (b : Bool). cond b 1 (greatestEnergy s)) (ne-eqb (greatestEnergy s) 0 h)
 
+-- in both cases it is 1 at least, and no less than the greatest energy
+G-bounds : (s : Counted) → (1 ≤ G s) × (greatestEnergy s ≤ G s)
+G-bounds s = go (eq-or-lt-of-le zero-le)
+  where
+    go : (0 ≡ greatestEnergy s) ⊎ (0 < greatestEnergy s) → (1 ≤ G s) × (greatestEnergy s ≤ G s)
+    go (inl e) = omega (arith, G-none s (sym e))
+    go (inr h) = omega (arith, G-some s (λ e. omega arith))
+
+-- G is 1 at least
+pub G-low : (s : Counted) → 1 ≤ G s
+G-low s = G-bounds s .0
+
+-- and no less than the greatest energy
+pub G-covers : (s : Counted) → greatestEnergy s ≤ G s
+G-covers s = G-bounds s .1
+
 -- G is 65,535 at most
 pub G-high : (s : Counted) → Ranged s → G s ≤ 65535
 unfolding G greatestEnergy
@@ -160,6 +184,11 @@ G-high s r =
     upto : (b : Bool) (n : ℕ) → n ≤ 65535 → cond b 1 n ≤ 65535
     upto true n h = omega arith
     upto false n h = h
+
+-- W is the sum of the weights of all the entries
+pub W-is : (s : Counted) → W s ≡ sum (weightAt s) (s .jobCount)
+unfolding W
+W-is s = refl
 
 -- W is 1 at least: there is an entry, and its weight is 1 at least
 pub W-low : (s : Counted) → Ranged s → 1 ≤ W s

@@ -25,6 +25,11 @@ pub and-both : (a b : Bool) → T a → T b → T (a && b)
 and-both true b t u = u
 and-both false b t u = t
 
+-- two tests together fail where the second fails
+pub and-fails-right : (a b : Bool) → b ≡ false → a && b ≡ false
+and-fails-right true b e = e
+and-fails-right false b e = refl
+
 -- two tests are one where each tells the other
 pub same-test : (a b : Bool) → (T a → T b) → (T b → T a) → a ≡ b
 same-test true true there back = refl

@@ -110,6 +110,14 @@ A1 = 0 ∷ 0 ∷ 0 ∷ 1 ∷ 2 ∷ 1 ∷ 1 ∷ 1 ∷ 2 ∷ 2 ∷ 2 ∷ 2 ∷ []
 abbrev pub planA : List ℕ
 planA = A0 ++ A1
 
+-- "values of slot 0: 0 4 8 20 32 4 8 20 32 16 20 32"
+abbrev pub valuesA0 : List ℕ
+valuesA0 = 0 ∷ 4 ∷ 8 ∷ 20 ∷ 32 ∷ 4 ∷ 8 ∷ 20 ∷ 32 ∷ 16 ∷ 20 ∷ 32 ∷ []
+
+-- "values of slot 1: 0 0 0 2 8 2 2 2 8 8 8 8"
+abbrev pub valuesA1 : List ℕ
+valuesA1 = 0 ∷ 0 ∷ 0 ∷ 2 ∷ 8 ∷ 2 ∷ 2 ∷ 2 ∷ 8 ∷ 8 ∷ 8 ∷ 8 ∷ []
+
 -- "D 1, speeds 0 and 1 with energies 0 and 1, T 1, one job (1, 2, 1): number 12, plan bytes 255 255"
 abbrev pub hopeless : Counted
 hopeless = sheetOf 1 (at 0 0 ∷ at 1 1 ∷ []) 1 (job 1 2 1 ∷ [])
@@ -128,20 +136,23 @@ upto6 = upto5 ++ (at 6 0 ∷ [])
 abbrev pub none64 : ℕ
 none64 = 18446744073709551615
 
+-- sheet A's plan: 01's values and the plan bytes of its listing
+unfoldable pub casesOfA : List Case
+casesOfA = refuses A 0 ∷ answers A 0 12 0 ∷ planned A 0 valuesA0 A0 ∷ planned A 1 valuesA1 A1 ∷ []
+
+-- the sheet that gives 12: "D 1, speeds 0 and 1 .., T 1, one job (1, 2, 1): number 12, plan bytes 255 255"
+unfoldable pub casesOfHopeless : List Case
+casesOfHopeless = refuses hopeless 0 ∷ answers hopeless 12 2 0 ∷ planned hopeless 0 (none64 ∷ none64 ∷ []) (255 ∷ 255 ∷ []) ∷ []
+
 -- the cases marked P
 unfoldable pub casesP : List Case
 casesP =
-    -- "values of slot 0: 0 4 8 20 32 4 8 20 32 16 20 32", and the plan bytes of its listing
-    refuses A 0 ∷
-    answers A 0 12 0 ∷
-    planned A 0 (0 ∷ 4 ∷ 8 ∷ 20 ∷ 32 ∷ 4 ∷ 8 ∷ 20 ∷ 32 ∷ 16 ∷ 20 ∷ 32 ∷ []) A0 ∷
+    casesOfA ++ (casesOfHopeless ++ (
     -- "At queue 1, speeds 0 and 1 both cost 4; 0 is given"
     numbers (numberOf 2 (0 ∷ 1 ∷ [])) 1 ∷
     costs A 0 (0 ∷ 1 ∷ []) 0 4 ∷
     costs A 0 (0 ∷ 1 ∷ []) 1 4 ∷
     decides A 0 (0 ∷ 1 ∷ []) (some 4) 0 ∷
-    -- "values of slot 1: 0 0 0 2 8 2 2 2 8 8 8 8"
-    planned A 1 (0 ∷ 0 ∷ 0 ∷ 2 ∷ 8 ∷ 2 ∷ 2 ∷ 2 ∷ 8 ∷ 8 ∷ 8 ∷ 8 ∷ []) A1 ∷
     -- "start (0,2): speed 1; advance by (2,2): queue (1,3), energy 1"
     steps (start A (state (0 ∷ 2 ∷ []) 0 0)) 0 (state (0 ∷ 2 ∷ []) 0 0) ∷
     tells (speed A planA (state (0 ∷ 2 ∷ []) 0 0)) 0 1 ∷
@@ -165,14 +176,10 @@ casesP =
     refuses (idle 5 upto5 1) 0 ∷
     counts 6 5 141778 ∷
     refuses (idle 5 upto6 1) 10 ∷
-    -- "D 1, speeds 0 and 1 .., T 1, one job (1, 2, 1): number 12, plan bytes 255 255"
-    refuses hopeless 0 ∷
-    answers hopeless 12 2 0 ∷
-    planned hopeless 0 (none64 ∷ none64 ∷ []) (255 ∷ 255 ∷ []) ∷
     -- document 000's first figure: "at time 4, before anything more, the queue is (0,0,1,3,3,3)"
     lists (run (arrive (run (arrive (run (arrive (run (arrive (emptyQueue 6) 2 4) 1) 1 5) 0) 2 6) 2) 2 4) 1)
     (0 ∷ 0 ∷ 1 ∷ 3 ∷ 3 ∷ 3 ∷ []) ∷
-    []
+    []))
 
 -- sheets of the cases that tell apart what is easy to get wrong
 

@@ -1,5 +1,5 @@
--- What the planner's functions promise each other. They compute the recursion of process/specs/Recursion.antt over the lent values; what
--- the calls promise is in Calls.antt and mentions none of this.
+-- What the planner's functions promise each other, over any width of a value. They compute the recursion of process/specs/Recursion.antt
+-- over the lent values; what the calls promise is in Calls.antt and mentions none of this.
 use Prim.Native.Nat.{ℕ, suc, pred, _+_, _*_, _-_, _^_, _≤_, _<_}
 use mathlib.Core.Path.{_≡_}
 use mathlib.Core.List.{List, []}
@@ -13,11 +13,9 @@ use Rattle.model.specs.Queue.{Queue, total, queueIn, bearable, bearableQueues, 
 use Rattle.model.specs.Refusal.{N, sheetRefusal}
 use Rattle.queues.specs.Counts.{HoldsCounts}
 use Rattle.queues.specs.Slot.{kept}
-use Rattle.value.specs.Width.{readAt}
-use Rattle.value.specs.Narrow.{width, valueOf}
+use Rattle.value.specs.Width.{Width, readAt}
 use Rattle.value.specs.Fills.{Fills, numberAt}
 use Rattle.planner.specs.declared.sizes.Sizes.{Sizes}
-use Rattle.planner.specs.declared.sizes.Slot.{Slot}
 
 -- the recursion, of a sheet
 
@@ -43,26 +41,26 @@ queueAfter s i = kept (getD (bearableQueues (M s) (pred (s .bound))) i [])
 -- a row in a buffer of values
 
 -- what the row that begins at place `from` says of a queue: none of one that is not bearable
-unfoldable pub valueInRow : ℕ → List ℕ → ℕ → Queue → Option ℕ
-valueInRow largest l from w = only (bearable largest w) (readAt width l (from + numberOf largest w))
+unfoldable pub valueInRow : Width → ℕ → List ℕ → ℕ → Queue → Option ℕ
+valueInRow width largest l from w = only (bearable largest w) (readAt width l (from + numberOf largest w))
 
 -- n values stand there, those that f gives
-pub record Row (f : ℕ → Option ℕ) (from n : ℕ) (l : List ℕ) : Type 0 where
+pub record Row (width : Width) (f : ℕ → Option ℕ) (from n : ℕ) (l : List ℕ) : Type 0 where
   pub room : (from + n) * width .places ≤ length l
   pub right : (i : ℕ) → i < n → readAt width l (from + i) ≡ f i
 
 -- the values of all queues with k slots left
-abbrev pub ValueRow : Counted → ℕ → ℕ → List ℕ → Type 0
-ValueRow s k from l = Row (λ i. valueWith s k (queueAt s i)) from (N s) l
+abbrev pub ValueRow : Width → Counted → ℕ → ℕ → List ℕ → Type 0
+ValueRow width s k from l = Row width (λ i. valueWith s k (queueAt s i)) from (N s) l
 
 -- what is ahead of all queues after a slot, with k slots left then
-abbrev pub AheadRow : Counted → ℕ → List ℕ → Type 0
-AheadRow s k l = Row (λ i. aheadOf s k (queueAfter s i)) 0 (queueCount (M s) (pred (s .bound))) l
+abbrev pub AheadRow : Width → Counted → ℕ → List ℕ → Type 0
+AheadRow width s k l = Row width (λ i. aheadOf s k (queueAfter s i)) 0 (queueCount (M s) (pred (s .bound))) l
 
 -- what a speed costs in a queue of D positions, where `ahead` is the buffer of what is ahead: the scaled energy and what is ahead after it
-unfoldable pub costIn : ℕ → ℕ → List ℕ → Option ℕ → Queue → ℕ → ℕ → Option ℕ
-costIn largest D ahead scale w speed energy =
-    only (leb (total w 1) speed) (plus (valueInRow largest ahead 0 (queueIn (pred D) (run w speed))) (times energy scale))
+unfoldable pub costIn : Width → ℕ → ℕ → List ℕ → Option ℕ → Queue → ℕ → ℕ → Option ℕ
+costIn width largest D ahead scale w speed energy =
+    only (leb (total w 1) speed) (plus (valueInRow width largest ahead 0 (queueIn (pred D) (run w speed))) (times energy scale))
 
 -- a choice as the code keeps it: a speed, 255 where there is none, and a value
 abbrev pub byteOf : Choice → ℕ
@@ -84,10 +82,11 @@ pub record Sized (s : Counted) (sizes : Sizes) : Type 0 where
   pub queues-is : sizes .queues ≡ N s
   pub after-is : sizes .after ≡ queueCount (M s) (pred (s .bound))
 
--- a slot as the code describes it: it is one of the sheet's, and the scale is W to the power of the slots left, this one counted
-pub record InPlan (s : Counted) (slot : Slot) : Type 0 where
-  pub left-low : slot .left < s .horizon
-  pub scale-is : valueOf (slot .scale) ≡ some (W s ^ suc (slot .left))
+-- a slot as the code describes it, by the slots left after it and its scale: it is one of the sheet's, and the scale is W to the power of
+-- the slots left, this one counted
+pub record InPlan (s : Counted) (left : ℕ) (scale : Option ℕ) : Type 0 where
+  pub left-low : left < s .horizon
+  pub scale-is : scale ≡ some (W s ^ suc left)
 
 -- what every pass is given: the counts, a sheet that is accepted, and its sizes
 pub record Prepared (counts : List ℕ) (s : Counted) (sizes : Sizes) : Type 0 where
@@ -96,21 +95,22 @@ pub record Prepared (counts : List ℕ) (s : Counted) (sizes : Sizes) : Type 0 w
   pub sized : Sized s sizes
 
 -- .. and one of its slots
-pub record Ready (counts : List ℕ) (s : Counted) (sizes : Sizes) (slot : Slot) : Type 0 where
+pub record Ready (counts : List ℕ) (s : Counted) (sizes : Sizes) (left : ℕ) (scale : Option ℕ) : Type 0 where
   pub prepared : Prepared counts s sizes
-  pub in-plan : InPlan s slot
+  pub in-plan : InPlan s left scale
 
--- how far a slot is planned: in its row of the values and in its row of the plan, the first n queues
-pub record PlannedTo (s : Counted) (slot : Slot) (n : ℕ) (values₀ plan₀ values plan : List ℕ) : Type 0 where
-  pub values-filled : Fills (width .places) (readAt width) (λ i. valueWith s (suc (slot .left)) (queueAt s i)) (slot .this) n values₀ values
-  pub plan-filled : Fills 1 numberAt (λ i. byteOf (choiceWith s (slot .left) (queueAt s i))) (slot .row) n plan₀ plan
+-- how far a slot is planned that has so many left after it: the first n queues, in the row of the values that begins at place `this` and in
+-- the row of the plan that begins at place `row`
+pub record PlannedTo (width : Width) (s : Counted) (left this row n : ℕ) (values₀ plan₀ values plan : List ℕ) : Type 0 where
+  pub values-filled : Fills (width .places) (readAt width) (λ i. valueWith s (suc left) (queueAt s i)) this n values₀ values
+  pub plan-filled : Fills 1 numberAt (λ i. byteOf (choiceWith s left (queueAt s i))) row n plan₀ plan
 
 -- what a slot leaves: every queue
-abbrev pub Planned : Counted → Slot → (values₀ plan₀ values plan : List ℕ) → Type 0
-Planned s slot values₀ plan₀ values plan = PlannedTo s slot (N s) values₀ plan₀ values plan
+abbrev pub Planned : Width → Counted → (left this row : ℕ) → (values₀ plan₀ values plan : List ℕ) → Type 0
+Planned width s left this row values₀ plan₀ values plan = PlannedTo width s left this row (N s) values₀ plan₀ values plan
 
 -- how far the lent memory is planned: the last k slots and the end row. What lies behind both tables is what was lent
-pub record PlannedFrom (s : Counted) (k : ℕ) (values₀ plan₀ values plan : List ℕ) : Type 0 where
+pub record PlannedFrom (width : Width) (s : Counted) (k : ℕ) (values₀ plan₀ values plan : List ℕ) : Type 0 where
   pub values-length : length values ≡ length values₀
   pub plan-length : length plan ≡ length plan₀
   pub values-right : (t i : ℕ) → s .horizon ≤ t + k → t ≤ s .horizon → i < N s →

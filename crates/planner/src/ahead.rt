@@ -35,7 +35,7 @@ pub fn value_in_row(
 ) -> Value
     requires { ⌜ HoldsCounts (now counts) × Ranges largest bound ×
         ((from + queueCount largest bound) * width .places ≤ length (now buffer)) ⌝ }
-    ensures { λ r. ⌜ valueOf r ≡ valueInRow largest (now (buffer .entry)) from (queueIn bound queue) ⌝ }
+    ensures { λ r. ⌜ valueOf r ≡ valueInRow width largest (now (buffer .entry)) from (queueIn bound queue) ⌝ }
 {
     if !finishable(largest, bound, queue) {
         return value::none();
@@ -56,7 +56,7 @@ fn value_with(
         Small (queueIn (sizes .bound) queue) ×
         ((next + queueCount (sizes .largest) (sizes .bound)) * width .places ≤ length (now values)) ⌝ }
     ensures { λ r. ⌜ valueOf r ≡
-        valueInRow (sizes .largest) (now (values .entry)) next (arrive (queueIn (sizes .bound) queue) (one .size) (one .deadline)) ⌝ }
+        valueInRow width (sizes .largest) (now (values .entry)) next (arrive (queueIn (sizes .bound) queue) (one .size) (one .deadline)) ⌝ }
 {
     let joined = arrive(sizes.bound, queue, one.size, one.deadline);
     value_in_row(counts, sizes.largest, sizes.bound, values, next, joined)
@@ -71,8 +71,8 @@ fn sum_ahead(
     values: &[u64],
     queue: [u32; 6],
 ) -> Value
-    requires { ⌜ Ready (now counts) (counted sheet) sizes slot × ValueRow (counted sheet) (slot .left) (slot .next) (now values) ×
-        Small (queueIn (sizes .bound) queue) ⌝ }
+    requires { ⌜ Ready (now counts) (counted sheet) sizes (slot .left) (valueOf (slot .scale)) ×
+        ValueRow width (counted sheet) (slot .left) (slot .next) (now values) × Small (queueIn (sizes .bound) queue) ⌝ }
     ensures { λ r. ⌜ valueOf r ≡ aheadOf (counted sheet) (slot .left) (queueIn (sizes .bound) queue) ⌝ }
 {
     let mut sum = value::of(0);
@@ -107,8 +107,8 @@ pub fn fill_ahead(
     values: &[u64],
     ahead: &mut [u64],
 )
-    requires { ⌜ Ready (now counts) (counted sheet) sizes slot × ValueRow (counted sheet) (slot .left) (slot .next) (now values) ×
-        (sizes .after * width .places ≤ length (now ahead)) ⌝ }
+    requires { ⌜ Ready (now counts) (counted sheet) sizes (slot .left) (valueOf (slot .scale)) ×
+        ValueRow width (counted sheet) (slot .left) (slot .next) (now values) × (sizes .after * width .places ≤ length (now ahead)) ⌝ }
     ensures { λ r. ⌜ Fills (width .places) (readAt width) (λ i. aheadOf (counted sheet) (slot .left) (queueAfter (counted sheet) i))
         0 (sizes .after) (now (ahead .entry)) (now (ahead .exit)) ⌝ }
 {

@@ -50,9 +50,10 @@ fn cost(
     requires { ⌜ HoldsCounts (now counts) × Ranges (sizes .largest) (sizes .bound) × (1 ≤ sizes .bound) ×
         (queueCount (sizes .largest) (pred (sizes .bound)) * width .places ≤ length (now ahead)) ×
         Below (width .limit)
-        (costIn (sizes .largest) (sizes .bound) (now ahead) (valueOf scale) (queueIn (sizes .bound) queue) (one .speed) (one .energy)) ⌝ }
+        (costIn width (sizes .largest) (sizes .bound) (now ahead) (valueOf scale) (queueIn (sizes .bound) queue) (one .speed) (one .energy)) ⌝ }
     ensures { λ r. ⌜ valueOf r ≡
-        costIn (sizes .largest) (sizes .bound) (now (ahead .entry)) (valueOf scale) (queueIn (sizes .bound) queue) (one .speed) (one .energy) ⌝ }
+        costIn width (sizes .largest) (sizes .bound) (now (ahead .entry)) (valueOf scale) (queueIn (sizes .bound) queue)
+        (one .speed) (one .energy) ⌝ }
 {
     if one.speed < queue[0] {
         return value::none();
@@ -71,8 +72,8 @@ fn choose(
     ahead: &[u64],
     queue: [u32; 6],
 ) -> Chosen
-    requires { ⌜ Ready (now counts) (counted sheet) sizes slot × AheadRow (counted sheet) (slot .left) (now ahead) ×
-        T (bearable (sizes .largest) (queueIn (sizes .bound) queue)) ⌝ }
+    requires { ⌜ Ready (now counts) (counted sheet) sizes (slot .left) (valueOf (slot .scale)) ×
+        AheadRow width (counted sheet) (slot .left) (now ahead) × T (bearable (sizes .largest) (queueIn (sizes .bound) queue)) ⌝ }
     ensures { λ r. ⌜ IsChoice (choiceWith (counted sheet) (slot .left) (queueIn (sizes .bound) queue)) (r .speed) (valueOf (r .value)) ⌝ }
 {
     let mut best = Chosen {
@@ -99,9 +100,11 @@ pub fn fill_row(
     values: &mut [u64],
     plan: &mut [u8],
 )
-    requires { ⌜ Ready (now counts) (counted sheet) sizes slot × AheadRow (counted sheet) (slot .left) (now ahead) ×
-        ((slot .this + sizes .queues) * width .places ≤ length (now values)) × (slot .row + sizes .queues ≤ length (now plan)) ⌝ }
-    ensures { λ r. ⌜ Planned (counted sheet) slot (now (values .entry)) (now (plan .entry)) (now (values .exit)) (now (plan .exit)) ⌝ }
+    requires { ⌜ Ready (now counts) (counted sheet) sizes (slot .left) (valueOf (slot .scale)) ×
+        AheadRow width (counted sheet) (slot .left) (now ahead) × ((slot .this + sizes .queues) * width .places ≤ length (now values)) ×
+        (slot .row + sizes .queues ≤ length (now plan)) ⌝ }
+    ensures { λ r. ⌜ Planned width (counted sheet) (slot .left) (slot .this) (slot .row)
+        (now (values .entry)) (now (plan .entry)) (now (values .exit)) (now (plan .exit)) ⌝ }
 {
     let mut number = 0;
     while number < sizes.queues {

@@ -56,10 +56,11 @@ fn fill_slot(
     values: &mut [u64],
     plan: &mut [u8],
 )
-    requires { ⌜ Ready (now counts) (counted sheet) sizes slot × ValueRow (counted sheet) (slot .left) (slot .next) (now values) ×
-        (sizes .after * width .places ≤ length (now ahead)) × ((slot .this + sizes .queues) * width .places ≤ length (now values)) ×
-        (slot .row + sizes .queues ≤ length (now plan)) ⌝ }
-    ensures { λ r. ⌜ Planned (counted sheet) slot (now (values .entry)) (now (plan .entry)) (now (values .exit)) (now (plan .exit)) ⌝ }
+    requires { ⌜ Ready (now counts) (counted sheet) sizes (slot .left) (valueOf (slot .scale)) ×
+        ValueRow width (counted sheet) (slot .left) (slot .next) (now values) × (sizes .after * width .places ≤ length (now ahead)) ×
+        ((slot .this + sizes .queues) * width .places ≤ length (now values)) × (slot .row + sizes .queues ≤ length (now plan)) ⌝ }
+    ensures { λ r. ⌜ Planned width (counted sheet) (slot .left) (slot .this) (slot .row)
+        (now (values .entry)) (now (plan .entry)) (now (values .exit)) (now (plan .exit)) ⌝ }
 {
     fill_ahead(counts, sheet, sizes, slot, values, ahead);
     fill_row(counts, sheet, sizes, slot, ahead, values, plan);
@@ -69,8 +70,8 @@ fn fill_slot(
 fn fill_slots(counts: &[u32; 2352], sheet: Sheet, sizes: Sizes, values: &mut [u64], plan: &mut [u8])
     requires { ⌜ Prepared (now counts) (counted sheet) sizes × (planNeeded (counted sheet) ≤ length (now plan)) ×
         (valuesNeeded (counted sheet) * width .places ≤ length (now values)) ×
-        PlannedFrom (counted sheet) 0 (now values) (now plan) (now values) (now plan) ⌝ }
-    ensures { λ r. ⌜ PlannedFrom (counted sheet) (sheet .horizon)
+        PlannedFrom width (counted sheet) 0 (now values) (now plan) (now values) (now plan) ⌝ }
+    ensures { λ r. ⌜ PlannedFrom width (counted sheet) (sheet .horizon)
         (now (values .entry)) (now (plan .entry)) (now (values .exit)) (now (plan .exit)) ⌝ }
 {
     // 7,084 values, at one place each
@@ -91,7 +92,7 @@ fn fill_slots(counts: &[u32; 2352], sheet: Sheet, sizes: Sizes, values: &mut [u6
 pub fn fill(counts: &[u32; 2352], sheet: Sheet, sizes: Sizes, values: &mut [u64], plan: &mut [u8])
     requires { ⌜ Prepared (now counts) (counted sheet) sizes × (planNeeded (counted sheet) ≤ length (now plan)) ×
         (valuesNeeded (counted sheet) * width .places ≤ length (now values)) ⌝ }
-    ensures { λ r. ⌜ PlannedFrom (counted sheet) (sheet .horizon)
+    ensures { λ r. ⌜ PlannedFrom width (counted sheet) (sheet .horizon)
         (now (values .entry)) (now (plan .entry)) (now (values .exit)) (now (plan .exit)) ⌝ }
 {
     fill_end(sizes.queues, place(sizes.queues, sheet.horizon, 0), values);

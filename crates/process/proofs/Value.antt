@@ -9,7 +9,7 @@ use mathlib.Core.Logic.{_⊎_, inl, inr, ⊎-elim, _↔_}
 use native.Mathlib.Nat.{pow-suc, mul-right-comm, one-mul, mul-le-mul-left, le-refl}
 use native.Mathlib.Nat.{le-of-lt, add-le-add, not-suc-le-zero, le-of-suc-le-suc, eq-or-lt-of-le}
 use native.Mathlib.Omega.{arith}
-use lib.Dec.{T}
+use lib.Dec.{T, ltb}
 use lib.ListN.{length, getD, replicate}
 use borrow.Author.Tests.{ltb-true, ltb-false}
 use Rattle.process.specs.Sums.{sum, Events, overLists, weight}
@@ -20,15 +20,23 @@ use Rattle.process.specs.Pairing.{Rising}
 use Rattle.process.proofs.Definite.{value-unique}
 use Rattle.process.proofs.Sums.{sum-same, sum-add, sum-times, over-add, over-times, weights-total}
 
+-- a number that is at most u, where there is one; what none gives is a parameter
+abbrev pub UptoOr : Type 0 → Option ℕ → ℕ → Type 0
+UptoOr N none u = N
+UptoOr N (some v) u = v ≤ u
+
 -- a number that is there and at most u
 abbrev pub Upto : Option ℕ → ℕ → Type 0
-Upto none u = ⊥
-Upto (some v) u = v ≤ u
+Upto = UptoOr ⊥
 
 -- a bound may be raised
+pub uptoOr-le : (N : Type 0) (r : Option ℕ) {u v : ℕ} → UptoOr N r u → u ≤ v → UptoOr N r v
+uptoOr-le N none t h = t
+uptoOr-le N (some a) t h = omega arith
+
+-- and so where the number is there
 pub upto-le : (r : Option ℕ) {u v : ℕ} → Upto r u → u ≤ v → Upto r v
-upto-le none t h = absurd t
-upto-le (some a) t h = omega arith
+upto-le = uptoOr-le ⊥
 
 -- the number that is there, or 0
 abbrev pub held : Option ℕ → ℕ
@@ -51,43 +59,63 @@ plus-some none r {t} e = absurd (Option·none-ne-some t e)
 plus-some (some u) none {t} e = absurd (Option·none-ne-some t e)
 plus-some (some u) (some v) e = (refl, refl, cc)
 
-plus-upto : (q r : Option ℕ) (u v : ℕ) → Upto q u → Upto r v → Upto (plus q r) (u + v)
-plus-upto none r u v s t = absurd s
-plus-upto (some a) none u v s t = absurd t
-plus-upto (some a) (some b) u v s t = add-le-add s t
+-- bounds of two numbers add up to one of their sum
+pub plus-upto : (N : Type 0) (q r : Option ℕ) (u v : ℕ) → UptoOr N q u → UptoOr N r v → UptoOr N (plus q r) (u + v)
+plus-upto N none r u v s t = s
+plus-upto N (some a) none u v s t = t
+plus-upto N (some a) (some b) u v s t = add-le-add s t
+
+-- a sum with none is none, whatever comes first
+pub plus-none : (r : Option ℕ) → plus r none ≡ none
+plus-none none = refl
+plus-none (some v) = refl
 
 times-some : (m : ℕ) (r : Option ℕ) {t : ℕ} → times m r ≡ some t → (r ≡ some (held r)) × (m * held r ≡ t)
 times-some m none {t} e = absurd (Option·none-ne-some t e)
 times-some m (some v) e = (refl, cc)
 
-times-upto : (m : ℕ) (r : Option ℕ) (u : ℕ) → Upto r u → Upto (times m r) (m * u)
-times-upto m none u t = absurd t
-times-upto m (some v) u t = mul-le-mul-left m t
+-- a bound of a number, so many times, is one of the product
+pub times-upto : (N : Type 0) (m : ℕ) (r : Option ℕ) (u : ℕ) → UptoOr N r u → UptoOr N (times m r) (m * u)
+times-upto N m none u t = t
+times-upto N m (some v) u t = mul-le-mul-left m t
 
-module _ (w : ℕ → ℕ) (h : ℕ → Option ℕ) where
-  -- where a weighted sum is there, so is each term, and it is their sum
-  sum-some : (n : ℕ) {t : ℕ} → sumOrNone (λ i. times (w i) (h i)) n ≡ some t →
-      ((i : ℕ) → i < n → h i ≡ some (held (h i))) × (sum (λ i. w i * held (h i)) n ≡ t)
-  unfolding sumOrNone sum
-  sum-some zero {t} e = (λ i l. absurd (not-suc-le-zero l), Option·some-injective 0 t e)
-  sum-some (suc n) {t} e =
-      let p = plus-some _ _ e in
-      let r = sum-some n (p .0) in
-      let q = times-some (w n) (h n) (p .1) in
-      (λ i l. ⊎-elim (λ s. rw s (q .0)) (λ s. r .0 i s) (eq-or-lt-of-le (le-of-suc-le-suc l)), cc)
+-- a sum of no terms is 0
+pub sum-or-none-start : (f : ℕ → Option ℕ) → sumOrNone f 0 ≡ some 0
+unfolding sumOrNone
+sum-or-none-start f = refl
 
-  -- a bound of each term bounds the weighted sum
-  sum-upto : (n : ℕ) (u : ℕ → ℕ) → ((i : ℕ) → i < n → Upto (h i) (u i)) →
-      Upto (sumOrNone (λ i. times (w i) (h i)) n) (sum (λ i. w i * u i) n)
-  unfolding sumOrNone sum
-  sum-upto zero u t = le-refl 0
-  sum-upto (suc n) u t =
-      plus-upto (sumOrNone (λ i. times (w i) (h i)) n) (times (w n) (h n)) _ _
-      (sum-upto n u (λ i l. t i (omega arith))) (times-upto (w n) (h n) (u n) (t n (omega arith)))
+-- and with one term more that term is added
+pub sum-or-none-more : (f : ℕ → Option ℕ) (n : ℕ) → sumOrNone f (suc n) ≡ plus (sumOrNone f n) (f n)
+unfolding sumOrNone
+sum-or-none-more f n = refl
+
+-- where a weighted sum is there, so is each term, and it is their sum
+sum-some : (w : ℕ → ℕ) (h : ℕ → Option ℕ) (n : ℕ) {t : ℕ} → sumOrNone (λ i. times (w i) (h i)) n ≡ some t →
+    ((i : ℕ) → i < n → h i ≡ some (held (h i))) × (sum (λ i. w i * held (h i)) n ≡ t)
+unfolding sumOrNone sum
+sum-some w h zero {t} e = (λ i l. absurd (not-suc-le-zero l), Option·some-injective 0 t e)
+sum-some w h (suc n) {t} e =
+    let p = plus-some _ _ e in
+    let r = sum-some w h n (p .0) in
+    let q = times-some (w n) (h n) (p .1) in
+    (λ i l. ⊎-elim (λ s. rw s (q .0)) (λ s. r .0 i s) (eq-or-lt-of-le (le-of-suc-le-suc l)), cc)
+
+-- a bound of each term bounds the weighted sum
+pub sum-upto : (N : Type 0) (w : ℕ → ℕ) (h : ℕ → Option ℕ) (n : ℕ) (u : ℕ → ℕ) → ((i : ℕ) → i < n → UptoOr N (h i) (u i)) →
+    UptoOr N (sumOrNone (λ i. times (w i) (h i)) n) (sum (λ i. w i * u i) n)
+unfolding sumOrNone sum
+sum-upto N w h zero u t = le-refl 0
+sum-upto N w h (suc n) u t =
+    plus-upto N (sumOrNone (λ i. times (w i) (h i)) n) (times (w n) (h n)) _ _ (sum-upto N w h n u (λ i l. t i (omega arith)))
+    (times-upto N (w n) (h n) (u n) (t n (omega arith)))
 
 -- the least of several prices
 
--- an action is taken for an earlier one only where it costs less
+-- an action is taken for an earlier one where it costs less, and only there
+pub cheaper-is : (v u : ℕ) → cheaper v u ≡ ltb v u
+unfolding cheaper
+cheaper-is v u = refl
+
 pub cheaper-true : (v u : ℕ) → cheaper v u ≡ true → v < u
 unfolding cheaper
 cheaper-true v u e = ltb-true v u e
@@ -113,6 +141,16 @@ Found price actions j (chosen a v) =
     ((m : ℕ) → m < i → (u : ℕ) → Upto (price (getD actions m 0)) u → v < u)
 
 module _ (price : ℕ → Option ℕ) (actions : List ℕ) where
+  -- of no actions there is no least
+  pub best-none : best price actions 0 ≡ nothing
+  unfolding best
+  best-none = refl
+
+  -- and with one action more it is the better of the least so far and that action at its price
+  pub best-more : (j : ℕ) → best price actions (suc j) ≡ better (best price actions j) (getD actions j 0) (price (getD actions j 0))
+  unfolding best
+  best-more j = refl
+
   -- the least is at most each price
   pub best-upto : (j m u : ℕ) → m < j → Upto (price (getD actions m 0)) u → Upto (worth (best price actions j)) u
   unfolding best
@@ -141,6 +179,31 @@ module _ (price : ℕ → Option ℕ) (actions : List ℕ) where
       go (chosen b s) (some v) p q f = pick (getD actions j 0) b s v (cheaper v s) refl p refl q f
 
 module _ {S : Type 0} (P : Process S) (n : ℕ) (w : ℕ → ℕ) where
+  -- the recursion, one step at a time, for those who need not unfold it
+
+  -- with no slot left a state that is alive has a value, its price
+  pub value-end : (x : S) → value P n w zero x ≡ only (P .alive x) (some (P .last x))
+  unfolding value
+  value-end x = refl
+
+  -- with one slot more it has what the least over the actions is worth
+  pub value-step : (k : ℕ) (x : S) → value P n w (suc k) x ≡ only (P .alive x) (worth (choice P n w k (value P n w k) x))
+  unfolding value
+  value-step k x = refl
+
+  -- the least over the actions is the least of the whole list of them
+  pub choice-is : (k : ℕ) (ahead : S → Option ℕ) (x : S) →
+      choice P n w k ahead x ≡ best (priced P n w k ahead x) (P .actions) (length (P .actions))
+  unfolding choice
+  choice-is k ahead x = refl
+
+  -- an action that is allowed costs its own cost, for all lists that follow, and the weighted sum of what each event leads to
+  pub priced-is : (k : ℕ) (ahead : S → Option ℕ) (x : S) (a : ℕ) →
+      priced P n w k ahead x a ≡
+      only (P .allowed x a) (plus (some (sum w n ^ suc k * P .cost x a)) (sumOrNone (λ i. times (w i) (ahead (P .next x a i))) n))
+  unfolding priced
+  priced-is k ahead x a = refl
+
   -- the energy over one slot more: this slot's cost for all lists that follow, and what each event leads to
   pub energy-step : (k : ℕ) (x : S) (σ : Way) →
       energy P n w (suc k) x σ ≡
@@ -212,7 +275,7 @@ module _ {S : Type 0} (P : Process S) (n : ℕ) (w : ℕ → ℕ) where
       let rest : Option ℕ = sumOrNone (λ i. times (w i) (ahead (P .next x a i))) n in
       let c : ℕ = sum w n ^ suc k * P .cost x a in
       only-upto (P .allowed x a) (plus (some c) rest) _ t
-      (plus-upto (some c) rest _ _ (le-refl c) (sum-upto w (λ i. ahead (P .next x a i)) n u h))
+      (plus-upto ⊥ (some c) rest _ _ (le-refl c) (sum-upto ⊥ w (λ i. ahead (P .next x a i)) n u h))
 
   -- the value, taken apart: the state is alive, and the value is the price of the plan's action, the first that has it
   pub value-some : (k : ℕ) (x : S) {v : ℕ} → value P n w (suc k) x ≡ some v →
