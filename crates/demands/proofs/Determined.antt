@@ -66,6 +66,10 @@ write-determined {before = before} {a = a} {b = b} view first second =
 
 -- plan
 
+-- what a plan answers, as the model says it
+abbrev pub answered : PlanAnswer → model-plan.PlanAnswer
+answered a = record { number = a .number; queues = a .queues; least = a .least }
+
 -- what a plan promises of this sheet and this lent memory
 pub plan-is : {sheet : Sheet} {values₀ plan₀ values bytes : List ℕ} {answer : PlanAnswer} → Plans sheet values₀ plan₀ answer values bytes →
     IsPlan (counted sheet) values₀ plan₀ values bytes (answer .number) (answer .queues) (answer .least)
@@ -86,7 +90,6 @@ plan-is {sheet = sheet} {values₀ = values₀} {plan₀ = plan₀} {values = va
 pub plan-determined : {s t : Sheet} {values₀ plan₀ values bytes values′ bytes′ : List ℕ} {a b : PlanAnswer} → counted s ≡ counted t →
     Plans s values₀ plan₀ a values bytes → Plans t values₀ plan₀ b values′ bytes′ → (values ≡ values′) × (bytes ≡ bytes′) × (a ≡ b)
 plan-determined {t = t} {values₀ = values₀} {plan₀ = plan₀} {values = values} {bytes = bytes} {values′ = values′} {bytes′ = bytes′} {a = a} {b = b} view first second =
-    let answered : PlanAnswer → model-plan.PlanAnswer = λ x. record { number = x .number; queues = x .queues; least = x .least } in
     let one = subst (λ (s : Counted). Leaves valueIn s values₀ plan₀ values bytes (answered a)) view (plan-is first) in
     let same = leaves-unique (counted t) values₀ plan₀ values bytes values′ bytes′ (answered a) (answered b) one (plan-is second) in
     let back : model-plan.PlanAnswer → PlanAnswer = λ x. record { number = x .number; queues = x .queues; least = x .least } in

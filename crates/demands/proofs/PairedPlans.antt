@@ -1,6 +1,6 @@
--- Demand 3 over two results of the planner's actual contract: of sheets paired job by job, at each slot and at queues of which one is nowhere
+-- Demand 3 over two results of the planner's actual contract, neither refused: of sheets paired job by job, at each slot and at queues of which one is nowhere
 -- longer, where the first plan's place is not none the second's is not none, and it is no greater.
-use Prim.Native.Nat.{ℕ, _-_, _≤_, _<_}
+use Prim.Native.Nat.{ℕ, _-_, _≤_}
 use mathlib.Core.Path.{_≡_, sym, _∙_, subst}
 use mathlib.Core.List.{List}
 use mathlib.Core.Option.{some}
@@ -8,32 +8,30 @@ use lib.Dec.{T}
 use lib.ListN.{length}
 use Rattle.process.proofs.Definite.{value-unique}
 use Rattle.model.specs.Counted.{counted, weightAt, M}
-use Rattle.model.specs.Plan.{processOf, IsValueAt, valueIn, placeAt}
-use Rattle.model.specs.Queue.{Queue, bearable, numberOf}
+use Rattle.model.specs.Plan.{processOf, IsValueAt, valueIn, planRefusal}
+use Rattle.model.specs.Queue.{Queue, bearable}
 use Rattle.model.specs.declared.Sheet.{Sheet}
 use Rattle.model.proofs.Longer.{bearable-carries}
 use Rattle.planner.specs.declared.calls.PlanAnswer.{PlanAnswer}
 use Rattle.demands.specs.Calls.{Plans}
 use Rattle.demands.specs.Paired.{Paired, NowhereLonger}
-use Rattle.demands.proofs.Demand2.{value-right}
+use Rattle.demands.proofs.Demand2.{placeOf, value-right}
 use Rattle.demands.proofs.Demand3.{largest, demand3}
 
--- the place of a slot and a queue in a sheet's table
-abbrev pub placeOf : Sheet → ℕ → Queue → ℕ
-placeOf sheet t w = placeAt (counted sheet) t (numberOf (M (counted sheet)) w)
-
 pub plans-eased : {first second : Sheet} {there back : ℕ → ℕ} → Paired (counted first) (counted second) there back →
-    {values₀ plan₀ values bytes : List ℕ} {a : PlanAnswer} → Plans first values₀ plan₀ a values bytes → 0 < a .queues →
-    {values₀′ plan₀′ values′ bytes′ : List ℕ} {b : PlanAnswer} → Plans second values₀′ plan₀′ b values′ bytes′ → 0 < b .queues →
+    {values₀ plan₀ values bytes : List ℕ} {a : PlanAnswer} → Plans first values₀ plan₀ a values bytes →
+    planRefusal (counted first) (length values₀) (length plan₀) ≡ 0 →
+    {values₀′ plan₀′ values′ bytes′ : List ℕ} {b : PlanAnswer} → Plans second values₀′ plan₀′ b values′ bytes′ →
+    planRefusal (counted second) (length values₀′) (length plan₀′) ≡ 0 →
     (v w : Queue) → NowhereLonger v w → T (bearable (M (counted first)) w) → length w ≡ counted first .bound →
     (t : ℕ) → t ≤ first .horizon → (u : ℕ) → valueIn values (placeOf first t w) ≡ some u →
     (u′ : ℕ) × (valueIn values′ (placeOf second t v) ≡ some u′) × (u′ ≤ u)
-plans-eased {first} {second} {there} {back} p {values = values} one planned {values′ = values′} two planned′ v w longer t-bearable positions t h u e =
+plans-eased {first} {second} {there} {back} p {values = values} one planned {values′ = values′} two planned′ v w longer is-bearable positions t h u e =
     let s = counted first in
     let z = counted second in
-    let least = subst (IsValueAt s t w) e (value-right one planned w t-bearable positions t h) in
+    let least = subst (IsValueAt s t w) e (value-right one planned w is-bearable positions t h) in
     let eased = demand3 s z there back p v w longer t u least in
-    let carried = bearable-carries (M s) (M z) v w (largest p) (longer .positions) (longer .never-falls) (longer .no-longer) t-bearable in
+    let carried = bearable-carries (M s) (M z) v w (largest p) (longer .positions) (longer .never-falls) (longer .no-longer) is-bearable in
     let second-is = value-right two planned′ v carried (longer .positions ∙ positions ∙ sym (p .same-bound)) t
     (subst (λ (T : ℕ). t ≤ T) (sym (p .same-horizon)) h) in (
       eased .0,

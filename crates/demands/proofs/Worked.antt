@@ -1,34 +1,21 @@
 -- The cases that document 01 marks P, of the planner itself: sheet A's values and plan, and the sheet that gives 12, are what `plan` leaves and
 -- answers, by its actual contract, for every sheet in memory with that view and any lent memory with room.
-use Prim.Native.Nat.{ℕ, zero, suc, _+_, _*_, _≤_, _<_}
-use mathlib.Core.Path.{_≡_, refl, sym, ap, _∙_, subst}
+use Prim.Native.Nat.{ℕ, suc, _+_, _*_, _≤_, _<_}
+use mathlib.Core.Path.{_≡_, sym, ap, _∙_, subst}
 use mathlib.Core.List.{List, [], _∷_}
 use native.Mathlib.Omega.{arith}
 use lib.ListN.{length, getD}
-use Rattle.model.specs.Cases.{A, A0, A1, hopeless, none64, Case, planned, numbers, Holds, AllHold, cases, casesP}
+use Rattle.model.specs.Cases.{A, A0, A1, valuesA0, valuesA1, hopeless, none64, planned, Holds, casesOfA, casesOfHopeless}
 use Rattle.model.specs.Counted.{Counted, counted}
-use Rattle.model.specs.Plan.{valueIn, placeAt, PlanAnswer, FromEmpty, Filled, LeavesBy, Leaves}
+use Rattle.model.specs.Plan.{valueIn, placeAt, valuesNeeded, planNeeded, PlanAnswer, FromEmpty, Filled}
 use Rattle.model.specs.Refusal.{N, sheetRefusal}
 use Rattle.model.specs.declared.Sheet.{Sheet}
-use Rattle.model.proofs.Cases.{cases-hold}
+use Rattle.model.proofs.Cases.{A-holds, hopeless-holds}
 use Rattle.model.proofs.Leaves.{decoded-same, decided-same, answer-same}
-use Rattle.planner.proofs.Refusals.{row-fits, plan-fits}
 use Rattle.planner.specs.declared.calls.PlanAnswer as code
 use Rattle.demands.specs.Calls.{Plans}
-use Rattle.demands.proofs.Demand2.{answered}
-use Rattle.demands.proofs.Determined.{plan-is}
-
--- a case of the list that holds, by its place
-
-abbrev caseAt : List Case → ℕ → Case
-caseAt [] i = numbers 0 0
-caseAt (c ∷ rest) zero = c
-caseAt (c ∷ rest) (suc i) = caseAt rest i
-
-holds-at : (l : List Case) → AllHold l → (i : ℕ) → Holds (caseAt l i)
-holds-at [] h i = refl
-holds-at (c ∷ rest) h zero = h .0
-holds-at (c ∷ rest) h (suc i) = holds-at rest (h .1) i
+use Rattle.demands.proofs.Demand2.{planned-by-room, planned-filled}
+use Rattle.demands.proofs.Determined.{answered}
 
 -- a plan of a sheet with the view s, which has n queues, lent room for both tables
 module _ {sheet : Sheet} {values₀ plan₀ values bytes : List ℕ} {a : code.PlanAnswer} (call : Plans sheet values₀ plan₀ a values bytes)
@@ -37,11 +24,12 @@ module _ {sheet : Sheet} {values₀ plan₀ values bytes : List ℕ} {a : code.P
   -- the lent memory is filled
   filled : Filled valueIn s values₀ plan₀ values bytes (answered a)
   filled =
-      subst (λ (number : ℕ). LeavesBy number valueIn s values₀ plan₀ values bytes (answered a))
-      (sym (plan-fits s (length values₀) (length plan₀)
-      (sym (row-fits s (length plan₀) accepted (subst (λ (m : ℕ). s .horizon * m ≤ length plan₀) (sym many) plan-room)))
-      (subst (λ (m : ℕ). suc (s .horizon) * m ≤ length values₀) (sym many) values-room)))
-      (subst (λ (z : Counted). Leaves valueIn z values₀ plan₀ values bytes (answered a)) view (plan-is call))
+      subst (λ (z : Counted). Filled valueIn z values₀ plan₀ values bytes (answered a)) view
+      (planned-filled call
+      (planned-by-room (counted sheet) (length values₀) (length plan₀) (ap sheetRefusal view ∙ accepted)
+      (subst (λ (z : Counted). valuesNeeded z ≤ length values₀) (sym view)
+      (subst (λ (m : ℕ). suc (s .horizon) * m ≤ length values₀) (sym many) values-room))
+      (subst (λ (z : Counted). planNeeded z ≤ length plan₀) (sym view) (subst (λ (m : ℕ). s .horizon * m ≤ length plan₀) (sym many) plan-room))))
 
   -- where a row of values and one of plan bytes are right for a slot, these rows are left
   row-left : (t : ℕ) (row plan : List ℕ) → Holds (planned s t row plan) → t < s .horizon → (i place : ℕ) → place ≡ t * n + i → i < n →
@@ -58,15 +46,7 @@ module _ {sheet : Sheet} {values₀ plan₀ values bytes : List ℕ} {a : code.P
   answer-given number least right =
       answer-same s (answered a) (record { number = number; queues = n; least = least }) (filled .queues ∙ many) (filled .empty) right
 
--- "P: values of slot 0: 0 4 8 20 32 4 8 20 32 16 20 32"
-abbrev pub valuesA0 : List ℕ
-valuesA0 = 0 ∷ 4 ∷ 8 ∷ 20 ∷ 32 ∷ 4 ∷ 8 ∷ 20 ∷ 32 ∷ 16 ∷ 20 ∷ 32 ∷ []
-
--- "P: values of slot 1: 0 0 0 2 8 2 2 2 8 8 8 8"
-abbrev pub valuesA1 : List ℕ
-valuesA1 = 0 ∷ 0 ∷ 0 ∷ 2 ∷ 8 ∷ 2 ∷ 2 ∷ 2 ∷ 8 ∷ 8 ∷ 8 ∷ 8 ∷ []
-
--- these values, the plan bytes of the listing, and its header
+-- 01's values of both slots, the plan bytes of its listing, and the header's numbers
 pub record IsPlanOfA (values bytes : List ℕ) (answer : PlanAnswer) : Type 0 where
   pub slot-0 : (i : ℕ) → i < 12 → (getD values i 0 ≡ getD valuesA0 i 0) × (getD bytes i 0 ≡ getD A0 i 0)
   pub slot-1 : (i : ℕ) → i < 12 → (getD values (12 + i) 0 ≡ getD valuesA1 i 0) × (getD bytes (12 + i) 0 ≡ getD A1 i 0)
@@ -75,14 +55,16 @@ pub record IsPlanOfA (values bytes : List ℕ) (answer : PlanAnswer) : Type 0 wh
 -- sheet A, planned in any lent memory with room, leaves and answers this
 pub plan-of-A : {sheet : Sheet} {values₀ plan₀ values bytes : List ℕ} {a : code.PlanAnswer} → Plans sheet values₀ plan₀ a values bytes →
     counted sheet ≡ A → 36 ≤ length values₀ → 24 ≤ length plan₀ → IsPlanOfA values bytes (answered a)
-unfolding cases casesP
-plan-of-A {values = values} {bytes = bytes} call view h k =
-    let holds = holds-at cases cases-hold in
-    let left = row-left call A view (holds 0) 12 (holds 1 .1) h k in
+unfolding casesOfA
+plan-of-A call view h k =
+    let accepted = A-holds .0 in
+    let answers = A-holds .1 .0 in
+    let rows = A-holds .1 .1 in
+    let left = row-left call A view accepted 12 (answers .1) h k in
     record {
-      slot-0 = λ i b. left 0 valuesA0 A0 (holds 2) (omega arith) i i (omega arith) b;
-      slot-1 = λ i b. left 1 valuesA1 A1 (holds 7) (omega arith) i (12 + i) (omega arith) b;
-      answer-is = answer-given call A view (holds 0) 12 (holds 1 .1) h k 0 0 (holds 1 .0);
+      slot-0 = λ i b. left 0 valuesA0 A0 (rows .0) (omega arith) i i (omega arith) b;
+      slot-1 = λ i b. left 1 valuesA1 A1 (rows .1 .0) (omega arith) i (12 + i) (omega arith) b;
+      answer-is = answer-given call A view accepted 12 (answers .1) h k 0 0 (answers .0);
     }
 
 -- "P: D 1, speeds 0 and 1 with energies 0 and 1, T 1, one job (1, 2, 1): number 12, plan bytes 255 255"
@@ -93,12 +75,13 @@ pub record IsPlanOfHopeless (values bytes : List ℕ) (answer : PlanAnswer) : Ty
 -- that sheet, planned in any lent memory with room, leaves and answers this
 pub plan-of-hopeless : {sheet : Sheet} {values₀ plan₀ values bytes : List ℕ} {a : code.PlanAnswer} → Plans sheet values₀ plan₀ a values bytes →
     counted sheet ≡ hopeless → 4 ≤ length values₀ → 2 ≤ length plan₀ → IsPlanOfHopeless values bytes (answered a)
-unfolding cases casesP
+unfolding casesOfHopeless
 plan-of-hopeless call view h k =
-    let holds = holds-at cases cases-hold in
+    let accepted = hopeless-holds .0 in
+    let answers = hopeless-holds .1 .0 in
     record {
       slot-0 = λ i b.
-          row-left call hopeless view (holds 27) 2 (holds 28 .1) h k 0 (none64 ∷ none64 ∷ []) (255 ∷ 255 ∷ []) (holds 29) (omega arith) i i
-          (omega arith) b;
-      answer-is = answer-given call hopeless view (holds 27) 2 (holds 28 .1) h k 12 0 (holds 28 .0);
+          row-left call hopeless view accepted 2 (answers .1) h k 0 (none64 ∷ none64 ∷ []) (255 ∷ 255 ∷ []) (hopeless-holds .1 .1 .0)
+          (omega arith) i i (omega arith) b;
+      answer-is = answer-given call hopeless view accepted 2 (answers .1) h k 12 0 (answers .0);
     }

@@ -1,21 +1,18 @@
--- `sum_of_bytes` is safe and ends.
+-- `with_row` meets its contract and ends.
 use Prim.Native.Nat.{_≤_, _<_, _-_}
 use lib.ListN.{length}
 use borrow.Author.Needs.{needs}
-use Rattle.walk_plans.proofs.sum_of_bytes.Statement.{statement}
-use Rattle.walk_plans.proofs.sum_of_bytes.Tie as tie
+use Rattle.walk_plans.proofs.with_row.Statement.{statement}
+use Rattle.walk_plans.proofs.with_row.Tie as tie
 
 abbrev Inv-loop : tie.InvT-loop
-Inv-loop plan count sum₀ place₀ sum place = (place ≤ length plan) × (sum < 4294967291)
+Inv-loop sum row sum₀ place₀ sum' place = (place ≤ length row) × (sum' < 4294967291)
 
 abbrev μ-loop : tie.MeasureT-loop
-μ-loop plan count sum₀ place₀ sum place = length plan - place
+μ-loop sum row sum₀ place₀ sum' place = length row - place
 
 loop-holds : tie.Need-loop-holds Inv-loop μ-loop
 loop-holds c = search needs
-
-returns : tie.Need-returns Inv-loop μ-loop
-returns c = search needs
 
 shared-slice-read-with-byte : tie.Need-shared-slice-read-with-byte Inv-loop μ-loop
 shared-slice-read-with-byte c = search needs
@@ -32,20 +29,19 @@ loop-less c = search needs
 loop-again : tie.Need-loop-again Inv-loop μ-loop
 loop-again c = search needs
 
-returns-2 : tie.Need-returns-2 Inv-loop μ-loop
-returns-2 c = search needs
+returns : tie.Need-returns Inv-loop μ-loop
+returns c = search needs
 
-pub sum-of-bytes-spec : {M : Type 1} → statement M
-sum-of-bytes-spec =
+pub with-row-spec : {M : Type 1} → statement M
+with-row-spec =
     tie.close
     (tie.spec
     Inv-loop
     μ-loop
     loop-holds
-    returns
     shared-slice-read-with-byte
     with-byte-requires
     add-place
     loop-less
     loop-again
-    returns-2)
+    returns)
