@@ -1,5 +1,6 @@
 -- The rows of a plan, the end row first and then slot by slot from the last one back: where each row stands in the lent memory, what a slot
--- finds there, and that the rows behind it stay as they are while it fills its own. The proofs of src/rows.rt stand on these laws.
+-- finds there, and that the rows behind it stay as they are while it fills its own. The proofs of src/rows.rt stand on these laws, which
+-- are over any width of a value.
 use Prim.Native.Nat.{ℕ, zero, suc, pred, _+_, _*_, _-_, _^_, _≤_, _<_}
 use mathlib.Core.Path.{_≡_, refl, sym, ap, _∙_, subst}
 use mathlib.Core.List.{List}
@@ -12,17 +13,14 @@ use Rattle.process.specs.Recursion.{plus, times}
 use Rattle.model.specs.Counted.{Counted, W, M}
 use Rattle.model.specs.Plan.{queueAt, placeAt, valuesNeeded, planNeeded}
 use Rattle.model.specs.Queue.{queueCount}
-use Rattle.model.specs.Refusal.{N}
+use Rattle.model.specs.Refusal.{N, valueLimit}
 use Rattle.model.proofs.Queues.{listed-bearable}
-use Rattle.model.proofs.Refusal.{Accepted, M-low, M-high}
+use Rattle.model.proofs.Refusal.{Accepted, M-low, M-high, N-is}
 use Rattle.queues.proofs.Fewer.{few-after}
 use Rattle.value.specs.Fills.{Fills, numberAt}
-use Rattle.value.specs.Narrow.{width, valueOf}
-use Rattle.value.specs.Width.{readAt, Below}
-use Rattle.value.specs.declared.Value.{Value}
-use Rattle.value.proofs.Filling.{read-local, number-local, fills-outside}
+use Rattle.value.specs.Width.{Width, readAt, Below}
+use Rattle.value.proofs.Filling.{fewer-fit, read-local, number-local, fills-outside}
 use Rattle.planner.specs.Passes.{valueWith, choiceWith, aheadOf, queueAfter, byteOf, ValueRow, AheadRow, InPlan, Planned, PlannedFrom}
-use Rattle.planner.specs.declared.sizes.Slot.{Slot}
 use Rattle.planner.proofs.Fits.{scale-fits}
 use Rattle.planner.proofs.FirstPass.{value-last}
 
@@ -30,8 +28,7 @@ use Rattle.planner.proofs.FirstPass.{value-last}
 
 -- the buffer of what is ahead has room for the queues after a slot
 pub after-room : (s : Counted) → Accepted s → queueCount (M s) (pred (s .bound)) ≤ 7084
-unfolding N
-after-room s a = go (s .bound) (a .ranged .bound-low) (a .ranged .bound-high) (a .queues-high)
+after-room s a = go (s .bound) (a .ranged .bound-low) (a .ranged .bound-high) (omega (arith, a .queues-high, N-is s))
   where
     go : (D : ℕ) → 1 ≤ D → D ≤ 6 → queueCount (M s) D ≤ 65535 → queueCount (M s) (pred D) ≤ 7084
     go zero low high few = absurd (omega arith)
@@ -47,10 +44,11 @@ scale-next w k {all = all} {scale = scale} same e d =
     ap (λ (p : Option ℕ). plus p (times all scale)) e ∙ ap (λ (p : Option ℕ). plus (some 0) (times all p)) d ∙
     ap (λ (n : ℕ). some n) (omega (arith, ap (λ (n : ℕ). n * w ^ k) same, pow-succ' w k))
 
--- and it fits while a slot is left
-pub scale-room : (s : Counted) → Accepted s → (k : ℕ) {all : ℕ} {first scale : Option ℕ} → k < s .horizon → all ≡ W s → first ≡ some 0 →
-    scale ≡ some (W s ^ k) → Below (width .limit) (plus first (times all scale))
-scale-room s a k h same e d = subst (λ (r : Option ℕ). Below (width .limit) r) (sym (scale-next (W s) k same e d)) (scale-fits s a k h)
+-- and it fits while a slot is left, at any width that has room for number 9's limit
+pub scale-room : (width : Width) → valueLimit < width .limit → (s : Counted) → Accepted s → (k : ℕ) {all : ℕ} {first scale : Option ℕ} →
+    k < s .horizon → all ≡ W s → first ≡ some 0 → scale ≡ some (W s ^ k) → Below (width .limit) (plus first (times all scale))
+scale-room width roomy s a k h same e d =
+    subst (λ (r : Option ℕ). Below (width .limit) r) (sym (scale-next (W s) k same e d)) (scale-fits s a width roomy k h)
 
 -- where the rows stand: row t from place t times N
 
@@ -73,154 +71,176 @@ module _ (horizon left n this : ℕ) (h : left < horizon) (e : this ≡ (horizon
 
 -- a slot that has k left after it: its rows of values and of plan bytes begin k + 1 rows before where the end row does, and the next
 -- slot's row of values right behind its own
-pub record Stands (s : Counted) (k : ℕ) (slot : Slot) : Type 0 where
+pub record Stands (s : Counted) (k left this next row : ℕ) : Type 0 where
   pub left-low : k < s .horizon
-  pub left-is : slot .left ≡ k
-  pub next-is : slot .next ≡ slot .this + N s
-  pub this-is : slot .this + suc k * N s ≡ s .horizon * N s
-  pub row-is : slot .row + suc k * N s ≡ s .horizon * N s
+  pub left-is : left ≡ k
+  pub next-is : next ≡ this + N s
+  pub this-is : this + suc k * N s ≡ s .horizon * N s
+  pub row-is : row + suc k * N s ≡ s .horizon * N s
 
 -- so does the slot that the code makes
-pub slot-stands : (s : Counted) (k : ℕ) (slot : Slot) {queues : ℕ} {scale : Value} → queues ≡ N s → k < s .horizon →
-    (slot .left ≡ k) × (slot .scale ≡ scale) × (slot .next ≡ slot .this + queues) ×
-    (slot .this + suc k * queues ≡ s .horizon * queues) × (slot .row + suc k * queues ≡ s .horizon * queues) → Stands s k slot
-slot-stands s k slot {queues = queues} e low made =
+pub slot-stands : (s : Counted) (k : ℕ) {left this next row queues : ℕ} → queues ≡ N s → k < s .horizon → left ≡ k → next ≡ this + queues →
+    this + suc k * queues ≡ s .horizon * queues → row + suc k * queues ≡ s .horizon * queues → Stands s k left this next row
+slot-stands s k {this = this} {row = row} e low left-is next-is this-is row-is =
     record {
       left-low = low;
-      left-is = made .0;
-      next-is = omega (arith, made .2);
-      this-is = subst (λ (n : ℕ). slot .this + suc k * n ≡ s .horizon * n) e (made .3);
-      row-is = subst (λ (n : ℕ). slot .row + suc k * n ≡ s .horizon * n) e (made .4);
+      left-is = left-is;
+      next-is = omega arith;
+      this-is = subst (λ (n : ℕ). this + suc k * n ≡ s .horizon * n) e this-is;
+      row-is = subst (λ (n : ℕ). row + suc k * n ≡ s .horizon * n) e row-is;
     }
 
--- it is one of the sheet's, and has its scale
-pub slot-in-plan : (s : Counted) (k : ℕ) (slot : Slot) {scale : Value} → Stands s k slot → slot .scale ≡ scale → valueOf scale ≡ some (W s ^ suc k) →
-    InPlan s slot
-slot-in-plan s k slot at e d =
-    record {
-      left-low = omega (arith, at .left-low, at .left-is);
-      scale-is = ap valueOf e ∙ d ∙ ap (λ (l : ℕ). some (W s ^ suc l)) (sym (at .left-is));
-    }
+-- the slot that has k left after it, counted from 0
+abbrev slotWith : Counted → ℕ → ℕ
+slotWith s k = s .horizon - suc k
 
-module _ (s : Counted) (k : ℕ) (slot : Slot) (at : Stands s k slot) where
-  -- the slot itself, counted from 0
-  abbrev t : ℕ
-  t = s .horizon - suc k
+module _ (s : Counted) (k : ℕ) {left this next row : ℕ} (at : Stands s k left this next row) where
+  -- it is one of the sheet's, and has its scale
+  pub slot-in-plan : {scale : Option ℕ} → scale ≡ some (W s ^ suc k) → InPlan s left scale
+  slot-in-plan e =
+      record {
+        left-low = omega (arith, at .left-low, at .left-is);
+        scale-is = e ∙ ap (λ (l : ℕ). some (W s ^ suc l)) (sym (at .left-is));
+      }
 
-  -- a row that begins so many rows before the end row is row t
-  row-at : (from : ℕ) → from + suc k * N s ≡ s .horizon * N s → from ≡ t * N s
+  -- a row that begins so many rows before the end row is the slot's
+  row-at : (from : ℕ) → from + suc k * N s ≡ s .horizon * N s → from ≡ slotWith s k * N s
   row-at from e =
-      let all : s .horizon ≡ t + suc k = omega (arith, at .left-low) in
-      omega (arith, ap (λ (x : ℕ). x * N s) all, add-mul t (suc k) (N s))
+      let all : s .horizon ≡ slotWith s k + suc k = omega (arith, at .left-low) in
+      omega (arith, ap (λ (x : ℕ). x * N s) all, add-mul (slotWith s k) (suc k) (N s))
 
-  -- so its rows begin where row t does
+  -- so its rows begin where they should
 
-  this-place : slot .this ≡ t * N s
-  this-place = row-at (slot .this) (at .this-is)
+  this-place : this ≡ slotWith s k * N s
+  this-place = row-at this (at .this-is)
 
-  row-place : slot .row ≡ t * N s
-  row-place = row-at (slot .row) (at .row-is)
+  row-place : row ≡ slotWith s k * N s
+  row-place = row-at row (at .row-is)
 
-  -- row t ends where the end row begins, or before
-  row-ends : t * N s + N s ≤ s .horizon * N s
-  row-ends = row-behind (N s) t (s .horizon) (omega (arith, at .left-low))
+  -- they end where the end row begins, or before
 
-  module _ {values₀ plan₀ values plan : List ℕ} (past : PlannedFrom s k values₀ plan₀ values plan) where
-    -- its row of values is within the lent memory
-    pub values-room : valuesNeeded s * width .places ≤ length values₀ → (slot .this + N s) * width .places ≤ length values
-    values-room room = omega (arith, this-place, row-ends, past .values-length, suc-mul (s .horizon) (N s))
+  row-ends : slotWith s k * N s + N s ≤ s .horizon * N s
+  row-ends = row-behind (N s) (slotWith s k) (s .horizon) (omega (arith, at .left-low))
 
-    -- and so is its row of the plan
-    pub plan-room : planNeeded s ≤ length plan₀ → slot .row + N s ≤ length plan
-    plan-room room = omega (arith, row-place, row-ends, past .plan-length)
+  plan-within : row + N s ≤ planNeeded s
+  plan-within = omega (arith, row-place, row-ends)
 
-    -- the row of the next slot stands
-    pub next-stands : valuesNeeded s * width .places ≤ length values₀ → ValueRow s (slot .left) (slot .next) values
-    next-stands room =
-        record {
-          room = omega (arith, this-place, row-ends, past .values-length, suc-mul (s .horizon) (N s), at .next-is);
-          right = λ i h.
-              let left : s .horizon - suc t ≡ slot .left = omega (arith, at .left-low, at .left-is) in
-              let place : placeAt s (suc t) i ≡ slot .next + i = omega (arith, this-place, at .next-is, suc-mul t (N s)) in
-              subst (λ (p : ℕ). readAt width values p ≡ valueWith s (slot .left) (queueAt s i)) place
-              (past .values-right (suc t) i (omega (arith, at .left-low)) (omega (arith, at .left-low)) h ∙
-              ap (λ (l : ℕ). valueWith s l (queueAt s i)) left);
-        }
+  -- so that its row of values, and the next one, are within what is needed
 
-    -- where the slot has filled its rows, one slot more is planned: the rows behind its own are as they were
-    pub planned-more : {values′ plan′ : List ℕ} → Planned s slot values plan values′ plan′ → PlannedFrom s (k + 1) values₀ plan₀ values′ plan′
-    planned-more {values′ = values′} {plan′ = plan′} filled =
-        record {
-          values-length = filled .values-filled .same-length ∙ past .values-length;
-          plan-length = filled .plan-filled .same-length ∙ past .plan-length;
-          values-right = λ u i from upto h. ⊎-elim (value-here u i h) (value-behind u i upto h) (eq-or-lt-of-le (reached u from));
-          plan-right = λ u i from upto h. ⊎-elim (byte-here u i h) (byte-behind u i upto h) (eq-or-lt-of-le (reached u from));
-          values-beyond = λ p h.
-              filled .values-filled .outside p (inr (omega (arith, this-place, row-ends, suc-mul (s .horizon) (N s)))) ∙ past .values-beyond p h;
-          plan-beyond = λ p h. filled .plan-filled .outside p (inr (omega (arith, row-place, row-ends))) ∙ past .plan-beyond p h;
-        }
-      where
-        reached : (u : ℕ) → s .horizon ≤ u + (k + 1) → t ≤ u
-        reached u h = omega (arith, at .left-low)
+  this-within : this + N s ≤ valuesNeeded s
+  this-within = omega (arith, this-place, row-ends, suc-mul (s .horizon) (N s))
 
-        here : (u i : ℕ) → t ≡ u → t * N s + i ≡ placeAt s u i
-        here u i e = omega (arith, ap (λ (x : ℕ). x * N s) e)
+  next-within : next + N s ≤ valuesNeeded s
+  next-within = omega (arith, this-place, row-ends, suc-mul (s .horizon) (N s), at .next-is)
 
-        behind : (u i : ℕ) → t < u → t * N s + N s ≤ placeAt s u i
-        behind u i l = omega (arith, row-behind (N s) t u l)
+-- one slot, where the slots behind it are planned
+module _ (width : Width) (s : Counted) (k : ℕ) {left this next row : ℕ} (at : Stands s k left this next row)
+    {values₀ plan₀ values plan : List ℕ} (past : PlannedFrom width s k values₀ plan₀ values plan) where
+  -- its row of values is within the lent memory
+  pub values-room : valuesNeeded s * width .places ≤ length values₀ → (this + N s) * width .places ≤ length values
+  values-room room = fewer-fit width (this-within s k at) (omega (arith, past .values-length))
 
-        value-here : (u i : ℕ) → i < N s → t ≡ u → readAt width values′ (placeAt s u i) ≡ valueWith s (s .horizon - u) (queueAt s i)
-        value-here u i h e =
-            let left : suc (slot .left) ≡ s .horizon - u = omega (arith, at .left-low, at .left-is) in
-            let place : slot .this + i ≡ placeAt s u i = omega (arith, here u i e, this-place) in
-            subst (λ (p : ℕ). readAt width values′ p ≡ valueWith s (s .horizon - u) (queueAt s i)) place
-            (filled .values-filled .filled i h ∙ ap (λ (l : ℕ). valueWith s l (queueAt s i)) left)
+  -- and so is its row of the plan
+  pub plan-room : planNeeded s ≤ length plan₀ → row + N s ≤ length plan
+  plan-room room = omega (arith, plan-within s k at, past .plan-length)
 
-        value-behind : (u i : ℕ) → u ≤ s .horizon → i < N s → t < u →
-            readAt width values′ (placeAt s u i) ≡ valueWith s (s .horizon - u) (queueAt s i)
-        value-behind u i upto h l =
-            fills-outside (width .places) (readAt width) (read-local width) (filled .values-filled) (placeAt s u i) (inr (omega (arith, behind u i l, this-place))) ∙
-            past .values-right u i (omega arith) upto h
+  -- the row of the next slot stands
+  pub next-stands : valuesNeeded s * width .places ≤ length values₀ → ValueRow width s left next values
+  next-stands room =
+      record {
+        room = fewer-fit width (next-within s k at) (omega (arith, past .values-length));
+        right = λ i h.
+            let t = slotWith s k in
+            let fewer : s .horizon - suc t ≡ left = omega (arith, at .left-low, at .left-is) in
+            let place : placeAt s (suc t) i ≡ next + i = omega (arith, this-place s k at, at .next-is, suc-mul t (N s)) in
+            subst (λ (p : ℕ). readAt width values p ≡ valueWith s left (queueAt s i)) place
+            (past .values-right (suc t) i (omega (arith, at .left-low)) (omega (arith, at .left-low)) h ∙
+            ap (λ (l : ℕ). valueWith s l (queueAt s i)) fewer);
+      }
 
-        byte-here : (u i : ℕ) → i < N s → t ≡ u → getD plan′ (placeAt s u i) 0 ≡ byteOf (choiceWith s (pred (s .horizon - u)) (queueAt s i))
-        byte-here u i h e =
-            let left : slot .left ≡ pred (s .horizon - u) = omega (arith, at .left-low, at .left-is) in
-            let place : slot .row + i ≡ placeAt s u i = omega (arith, here u i e, row-place) in
-            subst (λ (p : ℕ). getD plan′ p 0 ≡ byteOf (choiceWith s (pred (s .horizon - u)) (queueAt s i))) place
-            (filled .plan-filled .filled i h ∙ ap (λ (l : ℕ). byteOf (choiceWith s l (queueAt s i))) left)
+  -- where the slot has filled its rows, one slot more is planned: the rows behind its own are as they were
+  pub planned-more : {values′ plan′ : List ℕ} → Planned width s left this row values plan values′ plan′ →
+      PlannedFrom width s (k + 1) values₀ plan₀ values′ plan′
+  planned-more {values′ = values′} {plan′ = plan′} filled =
+      record {
+        values-length = filled .values-filled .same-length ∙ past .values-length;
+        plan-length = filled .plan-filled .same-length ∙ past .plan-length;
+        values-right = λ u i from upto h. ⊎-elim (value-here u i h) (value-behind u i upto h) (eq-or-lt-of-le (reached u from));
+        plan-right = λ u i from upto h. ⊎-elim (byte-here u i h) (byte-behind u i upto h) (eq-or-lt-of-le (reached u from));
+        values-beyond = λ p h.
+            filled .values-filled .outside p (inr (fewer-fit width (this-within s k at) h)) ∙ past .values-beyond p h;
+        plan-beyond = λ p h. filled .plan-filled .outside p (inr (omega (arith, plan-within s k at))) ∙ past .plan-beyond p h;
+      }
+    where
+      reached : (u : ℕ) → s .horizon ≤ u + (k + 1) → slotWith s k ≤ u
+      reached u h = omega (arith, at .left-low)
 
-        byte-behind : (u i : ℕ) → u < s .horizon → i < N s → t < u →
-            getD plan′ (placeAt s u i) 0 ≡ byteOf (choiceWith s (pred (s .horizon - u)) (queueAt s i))
-        byte-behind u i upto h l =
-            fills-outside 1 numberAt number-local (filled .plan-filled) (placeAt s u i) (inr (omega (arith, behind u i l, row-place))) ∙
-            past .plan-right u i (omega arith) upto h
+      here : (u i : ℕ) → slotWith s k ≡ u → slotWith s k * N s + i ≡ placeAt s u i
+      here u i e = omega (arith, ap (λ (x : ℕ). x * N s) e)
+
+      behind : (u i : ℕ) → slotWith s k < u → slotWith s k * N s + N s ≤ placeAt s u i
+      behind u i l = omega (arith, row-behind (N s) (slotWith s k) u l)
+
+      value-here : (u i : ℕ) → i < N s → slotWith s k ≡ u → readAt width values′ (placeAt s u i) ≡ valueWith s (s .horizon - u) (queueAt s i)
+      value-here u i h e =
+          let more : suc left ≡ s .horizon - u = omega (arith, at .left-low, at .left-is) in
+          let place : this + i ≡ placeAt s u i = omega (arith, here u i e, this-place s k at) in
+          subst (λ (p : ℕ). readAt width values′ p ≡ valueWith s (s .horizon - u) (queueAt s i)) place
+          (filled .values-filled .filled i h ∙ ap (λ (l : ℕ). valueWith s l (queueAt s i)) more)
+
+      value-behind : (u i : ℕ) → u ≤ s .horizon → i < N s → slotWith s k < u →
+          readAt width values′ (placeAt s u i) ≡ valueWith s (s .horizon - u) (queueAt s i)
+      value-behind u i upto h l =
+          fills-outside (width .places) (readAt width) (read-local width) (filled .values-filled) (placeAt s u i)
+          (inr (omega (arith, behind u i l, this-place s k at))) ∙
+          past .values-right u i (omega arith) upto h
+
+      byte-here : (u i : ℕ) → i < N s → slotWith s k ≡ u →
+          getD plan′ (placeAt s u i) 0 ≡ byteOf (choiceWith s (pred (s .horizon - u)) (queueAt s i))
+      byte-here u i h e =
+          let same : left ≡ pred (s .horizon - u) = omega (arith, at .left-low, at .left-is) in
+          let place : row + i ≡ placeAt s u i = omega (arith, here u i e, row-place s k at) in
+          subst (λ (p : ℕ). getD plan′ p 0 ≡ byteOf (choiceWith s (pred (s .horizon - u)) (queueAt s i))) place
+          (filled .plan-filled .filled i h ∙ ap (λ (l : ℕ). byteOf (choiceWith s l (queueAt s i))) same)
+
+      byte-behind : (u i : ℕ) → u < s .horizon → i < N s → slotWith s k < u →
+          getD plan′ (placeAt s u i) 0 ≡ byteOf (choiceWith s (pred (s .horizon - u)) (queueAt s i))
+      byte-behind u i upto h l =
+          fills-outside 1 numberAt number-local (filled .plan-filled) (placeAt s u i) (inr (omega (arith, behind u i l, row-place s k at))) ∙
+          past .plan-right u i (omega arith) upto h
 
 -- the first pass leaves what the second one needs
-pub ahead-stands : (s : Counted) (k after : ℕ) {ahead₀ ahead : List ℕ} → after ≡ queueCount (M s) (pred (s .bound)) →
+pub ahead-stands : (width : Width) (s : Counted) (k after : ℕ) {ahead₀ ahead : List ℕ} → after ≡ queueCount (M s) (pred (s .bound)) →
     after * width .places ≤ length ahead₀ →
-    Fills (width .places) (readAt width) (λ i. aheadOf s k (queueAfter s i)) 0 after ahead₀ ahead → AheadRow s k ahead
-ahead-stands s k after e room filled =
-    record { room = omega (arith, filled .same-length); right = λ i h. filled .filled i (omega arith) }
+    Fills (width .places) (readAt width) (λ i. aheadOf s k (queueAfter s i)) 0 after ahead₀ ahead → AheadRow width s k ahead
+ahead-stands width s k after e room filled =
+    record {
+      room = fewer-fit width {m = after} (omega arith) (omega (arith, filled .same-length));
+      right = λ i h. filled .filled i (omega arith);
+    }
 
 -- the end row
 
 -- with no slot left every queue of the list has a value, 0
 row-last : (s : Counted) (i : ℕ) → i < N s → valueWith s 0 (queueAt s i) ≡ some 0
-unfolding N
-row-last s i h = value-last s (queueAt s i) (listed-bearable (M s) (s .bound) i h .1)
+row-last s i h = value-last s (queueAt s i) (listed-bearable (M s) (s .bound) i (omega (arith, N-is s)) .1)
 
-module _ (s : Counted) (queues from : ℕ) (e : queues ≡ N s) (d : from ≡ s .horizon * queues + 0) where
+module _ (width : Width) (s : Counted) (queues from : ℕ) (e : queues ≡ N s) (d : from ≡ s .horizon * queues + 0) where
   -- it begins behind the rows of all slots
   end-place : from ≡ s .horizon * N s
   end-place = omega (arith, ap (λ (n : ℕ). s .horizon * n) e)
 
+  -- and ends where what is needed does
+  end-within : from + queues ≤ valuesNeeded s
+  end-within = omega (arith, end-place, suc-mul (s .horizon) (N s))
+
   -- it is within the lent memory
   pub end-room : (values : List ℕ) → valuesNeeded s * width .places ≤ length values → (from + queues) * width .places ≤ length values
-  end-room values room = omega (arith, end-place, suc-mul (s .horizon) (N s))
+  end-room values room = fewer-fit width end-within room
 
   module _ {values₀ values : List ℕ} (filled : Fills (width .places) (readAt width) (λ i. some 0) from queues values₀ values) where
     -- once it stands the lent memory is planned as far as no slot
-    pub planned-none : (plan : List ℕ) → PlannedFrom s 0 values plan values plan
+    pub planned-none : (plan : List ℕ) → PlannedFrom width s 0 values plan values plan
     planned-none plan =
         record {
           values-length = refl;
@@ -239,13 +259,14 @@ module _ (s : Counted) (queues from : ℕ) (e : queues ≡ N s) (d : from ≡ s 
             (filled .filled i (omega arith) ∙ sym (row-last s i h) ∙ ap (λ (k : ℕ). valueWith s k (queueAt s i)) none)
 
     -- what is planned from there on is planned from before it was filled on
-    pub planned-since : (k : ℕ) {plan₀ values′ plan′ : List ℕ} → PlannedFrom s k values plan₀ values′ plan′ → PlannedFrom s k values₀ plan₀ values′ plan′
+    pub planned-since : (k : ℕ) {plan₀ values′ plan′ : List ℕ} → PlannedFrom width s k values plan₀ values′ plan′ →
+        PlannedFrom width s k values₀ plan₀ values′ plan′
     planned-since k past =
         record {
           values-length = past .values-length ∙ filled .same-length;
           plan-length = past .plan-length;
           values-right = past .values-right;
           plan-right = past .plan-right;
-          values-beyond = λ p h. past .values-beyond p h ∙ filled .outside p (inr (omega (arith, end-place, suc-mul (s .horizon) (N s))));
+          values-beyond = λ p h. past .values-beyond p h ∙ filled .outside p (inr (fewer-fit width end-within h));
           plan-beyond = past .plan-beyond;
         }

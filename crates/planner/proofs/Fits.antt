@@ -1,7 +1,7 @@
 -- That nothing wraps: every sum over some of the entries, every cost and the scale stay below the limit of a value, at any width whose limit
 -- is above that of number 9. No bound stands in a loop's invariant: one induction over the recursion bounds its values (value-most), and
 -- number 9 does the rest.
-use Prim.Native.Nat.{ℕ, suc, _+_, _*_, _^_, _≤_, _<_}
+use Prim.Native.Nat.{ℕ, suc, _*_, _^_, _≤_, _<_}
 use mathlib.Core.Path.{_≡_, sym, ap, _∙_}
 use mathlib.Core.Option.{Option, none, some}
 use native.Mathlib.Nat.{mul-le-mul, mul-le-mul-left, mul-le-mul-right, mul-comm, mul-assoc, pow-suc, pow-le-pow-right, le-trans, le-refl}

@@ -4,7 +4,7 @@ use Prim.Native.Nat.{ℕ, zero, suc, pred, _+_, _-_, _≤_, _<_}
 use mathlib.Core.Path.{_≡_, refl, sym, ap, _∙_, subst}
 use mathlib.Core.List.{List}
 use mathlib.Core.Option.{Option, Option·getD}
-use native.Mathlib.Nat.{mul-one, not-suc-le-zero}
+use native.Mathlib.Nat.{le-refl, mul-one, not-suc-le-zero}
 use native.Mathlib.Omega.{arith}
 use lib.Dec.{T}
 use lib.ListN.{length, getD, drop, length-drop}
@@ -13,20 +13,16 @@ use Rattle.process.proofs.Value.{value-is, first-is}
 use Rattle.process.specs.Recursion.{Choice, nothing, chosen, worth, actionOf, plan}
 use Rattle.process.specs.Ways.{IsValue, IsFirst}
 use Rattle.model.proofs.Queues.{listed-bearable, empty-first}
-use Rattle.model.proofs.Refusal.{Accepted, speeds-rise, N-low}
+use Rattle.model.proofs.Refusal.{Accepted, speeds-rise, N-is, N-low}
 use Rattle.model.specs.Counted.{Counted, weightAt, M}
-use Rattle.model.specs.Plan.{processOf, IsValueAt, IsPlanByte, valueIn, queueAt, placeAt, valuesNeeded, planNeeded, PlanAnswer, Decided, Filled, number12}
+use Rattle.model.specs.Plan.{processOf, IsValueAt, IsPlanByte, valueIn, queueAt, placeAt, valuesNeeded, planNeeded, PlanAnswer, Decided, FromEmpty, Filled, number12}
 use Rattle.model.specs.Queue.{Queue, emptyQueue, bearable}
 use Rattle.model.specs.Refusal.{N}
 use Rattle.value.proofs.OnePlace.{read-is}
-use Rattle.value.specs.Narrow.{width}
-use Rattle.value.specs.Width.{readAt}
+use Rattle.value.specs.Narrow as narrow
+use Rattle.value.specs.Width.{Width, readAt}
 use Rattle.planner.specs.Passes.{valueWith, choiceWith, byteOf, PlannedFrom}
 use Rattle.planner.proofs.FirstPass.{value-chosen}
-
--- the planner reads a value as the model does: the code of none is the same
-pub read-value-in : (l : List ℕ) (i : ℕ) → readAt width l i ≡ valueIn l i
-read-value-in l i = read-is l i
 
 -- lists that are equal from n on, place by place
 drop-same : (n : ℕ) (l m : List ℕ) → length l ≡ length m → ((p : ℕ) → n ≤ p → getD l p 0 ≡ getD m p 0) → drop n l ≡ drop n m
@@ -68,52 +64,68 @@ module _ (s : Counted) (a : Accepted s) where
       go nothing e = refl
       go (chosen speed v) e = first-right (s .horizon - t) w speed v (omega arith) b e
 
-  -- memory that is planned from the horizon back to slot 0
-  module _ {values₀ plan₀ values plan : List ℕ} (p : PlannedFrom s (s .horizon) values₀ plan₀ values plan) where
-    -- at each place of a slot and a queue stand its value and its plan byte
-    decided : (t i : ℕ) → t < s .horizon → i < N s → Decided s t i (valueIn values (placeAt s t i)) (getD plan (placeAt s t i) 0)
-    unfolding N
-    decided t i h k =
-        record {
-          r = valueWith s (s .horizon - t) (queueAt s i);
-          is-value = value-right (s .horizon - t) (queueAt s i);
-          in-values = sym (read-value-in values (placeAt s t i)) ∙ p .values-right t i (omega arith) (omega arith) k;
-          in-plan =
-              subst (λ (byte : ℕ). IsPlanByte s t (queueAt s i) (valueWith s (s .horizon - t) (queueAt s i)) byte)
-              (sym (p .plan-right t i (omega arith) h k)) (byte-right t h (queueAt s i) (listed-bearable (M s) (s .bound) i k .1));
-        }
+-- memory that is planned from the horizon back to slot 0, at any width
+module _ (width : Width) (s : Counted) (a : Accepted s) {values₀ plan₀ values plan : List ℕ}
+    (p : PlannedFrom width s (s .horizon) values₀ plan₀ values plan) where
+  -- at each place of a slot and a queue stand its value and its plan byte
+  pub decided : (t i : ℕ) → t < s .horizon → i < N s → Decided s t i (readAt width values (placeAt s t i)) (getD plan (placeAt s t i) 0)
+  decided t i h k =
+      record {
+        r = valueWith s (s .horizon - t) (queueAt s i);
+        is-value = value-right s a (s .horizon - t) (queueAt s i);
+        in-values = p .values-right t i (omega arith) (omega arith) k;
+        in-plan =
+            subst (λ (byte : ℕ). IsPlanByte s t (queueAt s i) (valueWith s (s .horizon - t) (queueAt s i)) byte)
+            (sym (p .plan-right t i (omega arith) h k))
+            (byte-right s a t h (queueAt s i) (listed-bearable (M s) (s .bound) i (omega (arith, N-is s)) .1));
+      }
 
-    -- at each place of the end row stands its value
-    ended : (i : ℕ) → i < N s → IsValueAt s (s .horizon) (queueAt s i) (valueIn values (placeAt s (s .horizon) i))
-    ended i k =
-        subst (λ (r : Option ℕ). IsValueAt s (s .horizon) (queueAt s i) r)
-        (sym (p .values-right (s .horizon) i (omega arith) (omega arith) k) ∙ read-value-in values (placeAt s (s .horizon) i))
-        (value-right (s .horizon - s .horizon) (queueAt s i))
+  -- at each place of the values stands the value of its slot and queue, the end row too
+  pub valued : (t i : ℕ) → t ≤ s .horizon → i < N s → IsValueAt s t (queueAt s i) (readAt width values (placeAt s t i))
+  valued t i h k =
+      subst (λ (r : Option ℕ). IsValueAt s t (queueAt s i) r) (sym (p .values-right t i (omega arith) h k))
+      (value-right s a (s .horizon - t) (queueAt s i))
 
-    -- the first value of all is the empty queue's at slot 0
-    empty-value : IsValueAt s 0 (emptyQueue (s .bound)) (readAt width values (placeAt s 0 0))
-    empty-value =
-        subst (λ (w : Queue). IsValueAt s 0 w (readAt width values (placeAt s 0 0))) (empty-first (M s) (s .bound))
-        (subst (λ (r : Option ℕ). IsValueAt s 0 (queueAt s 0) r)
-        (sym (p .values-right 0 0 (omega arith) (omega arith) (omega (arith, N-low s (a .ranged))))) (value-right (s .horizon - 0) (queueAt s 0)))
+  -- the first value of all is the empty queue's at slot 0
+  empty-value : IsValueAt s 0 (emptyQueue (s .bound)) (readAt width values (placeAt s 0 0))
+  empty-value =
+      subst (λ (w : Queue). IsValueAt s 0 w (readAt width values (placeAt s 0 0))) (empty-first (M s) (s .bound))
+      (valued 0 0 (omega arith) (omega (arith, N-low s (a .ranged))))
 
-    -- it is filled as the model says, and the answer is right where its number and its least energy are those of the first value
-    pub planned-filled : (answer : PlanAnswer) {place : ℕ} {r : Option ℕ} → place ≡ placeAt s 0 0 → r ≡ readAt width values place →
-        answer .queues ≡ N s → answer .number ≡ number12 r → answer .least ≡ Option·getD r 0 → Filled valueIn s values₀ plan₀ values plan answer
-    planned-filled answer {place = place} {r = r} first e queues number least =
-        record {
-          rows = decided;
-          end-row = ended;
-          values-length = p .values-length;
-          plan-length = p .plan-length;
-          values-beyond = drop-same (valuesNeeded s) values values₀ (p .values-length) (λ q h. p .values-beyond q (rw mul-one h));
-          plan-beyond = drop-same (planNeeded s) plan plan₀ (p .plan-length) (p .plan-beyond);
-          queues = queues;
-          empty =
-              record {
-                r = r;
-                is-value = subst (λ (q : Option ℕ). IsValueAt s 0 (emptyQueue (s .bound)) q) (sym (e ∙ ap (readAt width values) first)) empty-value;
-                number = number;
-                least = least;
-              };
-        }
+  -- so that the answer is right where its number and its least energy are those of the first value
+  pub from-empty : (answer : PlanAnswer) {place : ℕ} {r : Option ℕ} → place ≡ placeAt s 0 0 → r ≡ readAt width values place →
+      answer .number ≡ number12 r → answer .least ≡ Option·getD r 0 → FromEmpty s answer
+  from-empty answer {r = r} first e number least =
+      record {
+        r = r;
+        is-value = subst (λ (q : Option ℕ). IsValueAt s 0 (emptyQueue (s .bound)) q) (sym (e ∙ ap (readAt width values) first)) empty-value;
+        number = number;
+        least = least;
+      }
+
+-- at the width of document 01
+
+-- the planner reads a value as the model does: the code of none is the same
+pub read-value-in : (l : List ℕ) (i : ℕ) → readAt narrow.width l i ≡ valueIn l i
+read-value-in l i = read-is l i
+
+-- such memory is filled as the model says
+pub planned-filled : (s : Counted) → Accepted s → {values₀ plan₀ values plan : List ℕ} →
+    PlannedFrom narrow.width s (s .horizon) values₀ plan₀ values plan → (answer : PlanAnswer) {place : ℕ} {r : Option ℕ} →
+    place ≡ placeAt s 0 0 → r ≡ readAt narrow.width values place → answer .queues ≡ N s → answer .number ≡ number12 r → answer .least ≡ Option·getD r 0 →
+    Filled valueIn s values₀ plan₀ values plan answer
+planned-filled s a {values₀ = values₀} {plan₀ = plan₀} {values = values} {plan = plan} p answer first e queues number least =
+    record {
+      rows = λ t i h k.
+          subst (λ (r : Option ℕ). Decided s t i r (getD plan (placeAt s t i) 0)) (read-value-in values (placeAt s t i))
+          (decided narrow.width s a p t i h k);
+      end-row = λ i k.
+          subst (λ (r : Option ℕ). IsValueAt s (s .horizon) (queueAt s i) r) (read-value-in values (placeAt s (s .horizon) i))
+          (valued narrow.width s a p (s .horizon) i (le-refl (s .horizon)) k);
+      values-length = p .values-length;
+      plan-length = p .plan-length;
+      values-beyond = drop-same (valuesNeeded s) values values₀ (p .values-length) (λ q h. p .values-beyond q (rw mul-one h));
+      plan-beyond = drop-same (planNeeded s) plan plan₀ (p .plan-length) (p .plan-beyond);
+      queues = queues;
+      empty = from-empty narrow.width s a p answer first e number least;
+    }

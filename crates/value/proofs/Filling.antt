@@ -4,7 +4,7 @@ use Prim.Native.Nat.{ℕ, zero, suc, _+_, _*_, _≤_, _<_}
 use mathlib.Core.Path.{_≡_, refl, sym, ap, _∙_, subst}
 use mathlib.Core.List.{List}
 use mathlib.Core.Logic.{_⊎_, inl, inr, ⊎-elim}
-use native.Mathlib.Nat.{mul-le-mul-right, add-zero, eq-or-lt-of-le, le-of-suc-le-suc, not-suc-le-zero, suc-mul}
+use native.Mathlib.Nat.{le-trans, mul-le-mul-right, add-zero, eq-or-lt-of-le, le-of-suc-le-suc, not-suc-le-zero, suc-mul}
 use native.Mathlib.Omega.{arith}
 use lib.ListN.{length, getD, set, length-set}
 use lib.Seq.{getD-set-same, getD-set-other}
@@ -14,6 +14,10 @@ use Rattle.value.specs.Fills.{numberAt, Fills}
 -- a reader of things that stand in so many places each: what stands at place i depends on those places alone
 abbrev pub Local : {A : Type 0} → ℕ → (List ℕ → ℕ → A) → Type 0
 Local places reader = (l m : List ℕ) (i : ℕ) → ((p : ℕ) → i * places ≤ p → p < suc i * places → getD l p 0 ≡ getD m p 0) → reader l i ≡ reader m i
+
+-- fewer values have room where more have
+pub fewer-fit : (width : Width) {n m room : ℕ} → n ≤ m → m * width .places ≤ room → n * width .places ≤ room
+fewer-fit width h fit = le-trans (mul-le-mul-right (width .places) h) fit
 
 -- what stands in n places depends on those alone
 numbers-same : (l m : List ℕ) (at n : ℕ) → ((p : ℕ) → at ≤ p → p < at + n → getD l p 0 ≡ getD m p 0) → numberFrom l at n ≡ numberFrom m at n

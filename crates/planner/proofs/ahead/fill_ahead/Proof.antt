@@ -3,7 +3,6 @@ use Prim.Native.Nat.{_-_, _≤_}
 use mathlib.Core.Path.{sym, ap, _∙_, subst}
 use native.Mathlib.Nat.{zero-add}
 use native.Mathlib.Omega.{arith}
-use Rattle.model.proofs.Refusal.{accepted}
 use Rattle.model.specs.Counted.{counted}
 use Rattle.queues.specs.Slot.{Small}
 use Rattle.value.proofs.Filling.{read-local, fills-none, fills-more, fills-whole}
@@ -11,7 +10,7 @@ use Rattle.value.specs.Fills.{Fills}
 use Rattle.value.specs.Narrow.{width}
 use Rattle.value.specs.Width.{readAt}
 use Rattle.planner.specs.Passes.{aheadOf, queueAfter}
-use Rattle.planner.proofs.FirstPass.{sized-ranges, sized-bound, sized-after, sized-queue-after, kept-small}
+use Rattle.planner.proofs.FirstPass.{sized-bound, sized-after, sized-queue-after, ready-accepted, ready-ranges, kept-small}
 use Rattle.planner.proofs.ahead.fill_ahead.Statement.{statement}
 use Rattle.planner.proofs.ahead.fill_ahead.Tie as tie
 
@@ -31,25 +30,23 @@ queue-after-requires c κs =
     let start = c .before .before .before .before .before in
     let a = start .args in
     let s = counted (a .sheet) in
-    let p = start .pre .0 .prepared in
-    let right = accepted s (p .accepted) .ranged in (
-      p .holds,
-      sized-ranges s (a .sizes) (p .sized) right,
-      sized-bound s (a .sizes) (p .sized) right,
-      omega (arith, c .if1 .taken, sized-after s (a .sizes) (p .sized)),
+    let ready = start .pre .0 in
+    let sized = ready .prepared .sized in (
+      ready .prepared .holds,
+      ready-ranges ready,
+      sized-bound s (a .sizes) sized (ready-accepted ready .ranged),
+      omega (arith, c .if1 .taken, sized-after s (a .sizes) sized),
     )
 
 sum-ahead-requires : tie.Need-sum-ahead-requires Inv-loop μ-loop
 sum-ahead-requires c κs =
     let start = c .before .before .before .before .before .before in
     let a = start .args in
-    let s = counted (a .sheet) in
-    let p = start .pre .0 .prepared in
+    let ready = start .pre .0 in
     let small =
-    kept-small (a .sizes .largest) (a .sizes .bound) (c .before .before .before .loop .number)
-    (sized-ranges s (a .sizes) (p .sized) (accepted s (p .accepted) .ranged))
-    (omega (arith, c .before .if1 .taken, sized-after s (a .sizes) (p .sized))) in
-    (start .pre .0, start .pre .1, subst Small (sym (c .queue-after .ensures)) small)
+    kept-small (a .sizes .largest) (a .sizes .bound) (c .before .before .before .loop .number) (ready-ranges ready)
+    (omega (arith, c .before .if1 .taken, sized-after (counted (a .sheet)) (a .sizes) (ready .prepared .sized))) in
+    (ready, start .pre .1, subst Small (sym (c .queue-after .ensures)) small)
 
 store-requires : tie.Need-store-requires Inv-loop μ-loop
 store-requires c κs =

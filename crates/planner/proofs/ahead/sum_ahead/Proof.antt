@@ -4,7 +4,6 @@ use Prim.Native.Nat.{ℕ, _+_, _-_, _*_, _≤_}
 use mathlib.Core.Path.{_≡_, sym, ap, _∙_, subst}
 use native.Mathlib.Omega.{arith}
 use lib.ListN.{length}
-use Rattle.model.proofs.Refusal.{accepted}
 use Rattle.model.specs.Counted.{counted}
 use Rattle.model.specs.Queue.{queueIn}
 use Rattle.model.specs.declared.Job.{Job}
@@ -13,7 +12,7 @@ use Rattle.value.specs.Narrow.{width, valueOf}
 use Rattle.value.specs.Width.{Below}
 use Rattle.planner.specs.Passes.{aheadTo}
 use Rattle.planner.proofs.Fits.{ahead-fits}
-use Rattle.planner.proofs.FirstPass.{sized-ranges, sized-queues, ahead-none, ahead-turn}
+use Rattle.planner.proofs.FirstPass.{sized-queues, ready-accepted, ready-ranges, ahead-none, ahead-turn}
 use Rattle.planner.proofs.ahead.sum_ahead.Statement.{statement}
 use Rattle.planner.proofs.ahead.sum_ahead.Tie as tie
 
@@ -23,6 +22,10 @@ Inv-loop counts sizes slot values queue sheet sum₀ place₀ sum place =
 
 abbrev μ-loop : tie.MeasureT-loop
 μ-loop counts sizes slot values queue sheet sum₀ place₀ sum place = sheet .«job_count» - place
+
+-- the queue stands in six places
+six : (c : tie.Start Inv-loop μ-loop) → length (c .args .queue) ≡ 6
+six c = omega (arith, c .good .1 .1 .1 .1 .1 .0)
 
 of-requires : tie.Need-of-requires Inv-loop μ-loop
 of-requires c κs = tt
@@ -36,51 +39,43 @@ cast-one : tie.Need-cast-one Inv-loop μ-loop
 cast-one c = omega arith
 
 mul-one : tie.Need-mul-one Inv-loop μ-loop
-mul-one c =
-    let start = c .before .before .before .before in
-    omega (arith, accepted (counted (start .args .t2)) (start .pre .0 .prepared .accepted) .ranged .jobs-high)
+mul-one c = omega (arith, ready-accepted (c .before .before .before .before .pre .0) .ranged .jobs-high)
 
 element-copy-out-one : tie.Need-element-copy-out-one Inv-loop μ-loop
-element-copy-out-one c =
-    let start = c .before .before .before .before in
-    omega (arith, accepted (counted (start .args .t2)) (start .pre .0 .prepared .accepted) .ranged .jobs-high)
+element-copy-out-one c = omega (arith, ready-accepted (c .before .before .before .before .pre .0) .ranged .jobs-high)
 
 value-with-requires : tie.Need-value-with-requires Inv-loop μ-loop
 value-with-requires c κs =
     let start = c .before .before .before .before .before in
     let a = start .args in
-    let s = counted (a .t2) in
-    let p = start .pre .0 .prepared in
-    let right = accepted s (p .accepted) .ranged in
+    let ready = start .pre .0 in
     let place = c .before .before .loop .place in
-    let taken = c .before .loop-test .taken in (
-      p .holds,
-      sized-ranges s (a .sizes) (p .sized) right,
-      subst (λ (one : Job). one .size ≤ 255) (job-counts (a .t2) place taken) (right .size-high place taken),
+    let taken = c .before .loop-test .taken in
+    let queues = sized-queues (counted (a .t2)) (a .sizes) (ready .prepared .sized) in (
+      ready .prepared .holds,
+      ready-ranges ready,
+      subst (λ (one : Job). one .size ≤ 255) (job-counts (a .t2) place taken) (ready-accepted ready .ranged .size-high place taken),
       start .pre .2,
-      subst (λ (n : ℕ). (a .slot .next + n) * width .places ≤ length (a .values .now)) (sym (sized-queues s (a .sizes) (p .sized)))
-          (start .pre .1 .room),
+      subst (λ (n : ℕ). (a .slot .next + n) * width .places ≤ length (a .values .now)) (sym queues) (start .pre .1 .room),
     )
 
 add-requires : tie.Need-add-requires Inv-loop μ-loop
 add-requires c κs =
     let start = c .before .before .before .before .before .before in
     let a = start .args in
-    let s = counted (a .t2) in
     let ready = start .pre .0 in
     let l = c .before .before .before .loop in
-    let six : length (a .queue) ≡ 6 = omega (arith, start .good .1 .1 .1 .1 .1 .0) in
     subst (Below (width .limit))
     (sym
-    (ahead-turn (a .t2) ready (start .pre .1) (a .queue) six (l .place) (c .before .before .loop-test .taken) (l .inv .1)
+    (ahead-turn width (a .t2) ready (start .pre .1) (a .queue) (six start) (l .place) (c .before .before .loop-test .taken) (l .inv .1)
     (c .value-with .ensures)))
-    (ahead-fits s (accepted s (ready .prepared .accepted)) (a .slot .left) (queueIn (a .sizes .bound) (a .queue)) (l .place + 1)
-    (ready .in-plan .left-low) (omega arith))
+    (ahead-fits (counted (a .t2)) (ready-accepted ready) width (omega arith) (a .slot .left) (queueIn (a .sizes .bound) (a .queue))
+    (l .place + 1) (ready .in-plan .left-low) (omega arith))
 
 add-place : tie.Need-add-place Inv-loop μ-loop
 add-place c =
     let start = c .before .before .before .before .before .before .before in
-    omega (arith, accepted (counted (start .args .t2)) (start .pre .0 .prepared .accepted) .ranged .jobs-high)
+    omega (arith, ready-accepted (start .pre .0) .ranged .jobs-high)
 
 loop-less : tie.Need-loop-less Inv-loop μ-loop
 loop-less c = omega arith
@@ -89,12 +84,11 @@ loop-again : tie.Need-loop-again Inv-loop μ-loop
 loop-again c =
     let start = c .before .before .before .before .before .before .before in
     let a = start .args in
-    let l = c .before .before .before .before .loop in
-    let six : length (a .queue) ≡ 6 = omega (arith, start .good .1 .1 .1 .1 .1 .0) in (
+    let l = c .before .before .before .before .loop in (
       omega arith,
       c .add .ensures ∙
-          ahead-turn (a .t2) (start .pre .0) (start .pre .1) (a .queue) six (l .place) (c .before .before .before .loop-test .taken) (l .inv .1)
-          (c .before .value-with .ensures),
+          ahead-turn width (a .t2) (start .pre .0) (start .pre .1) (a .queue) (six start) (l .place)
+          (c .before .before .before .loop-test .taken) (l .inv .1) (c .before .value-with .ensures),
     )
 
 returns : tie.Need-returns Inv-loop μ-loop

@@ -1,5 +1,5 @@
 -- `value_in_row` meets its contract: none where the queue is not bearable, else what stands at its number, which is a place of the row.
-use Prim.Native.Nat.{ℕ, _+_}
+use Prim.Native.Nat.{ℕ, suc, _+_, _≤_}
 use mathlib.Core.Path.{sym, ap, _∙_}
 use native.Mathlib.Omega.{arith}
 use borrow.Author.Needs.{needs}
@@ -8,7 +8,8 @@ use Rattle.queues.proofs.RoundTrip.{number-in-below}
 use Rattle.sheets.proofs.Answers.{passed-by, failed-by}
 use Rattle.value.specs.Narrow.{width}
 use Rattle.value.specs.Width.{readAt}
-use Rattle.planner.proofs.FirstPass.{none-in-row, read-in-row, numbered-by, room-at}
+use Rattle.value.proofs.Filling.{fewer-fit}
+use Rattle.planner.proofs.FirstPass.{none-in-row, read-in-row, numbered-by}
 use Rattle.planner.proofs.ahead.value_in_row.Statement.{statement}
 use Rattle.planner.proofs.ahead.value_in_row.Tie as tie
 
@@ -23,7 +24,7 @@ returns c =
     let a = c .before .before .before .before .args in
     c .none .ensures ∙
     sym
-    (none-in-row (a .largest) (a .buffer .now) (a .from) (queueIn (a .bound) (a .queue))
+    (none-in-row width (a .largest) (a .buffer .now) (a .from) (queueIn (a .bound) (a .queue))
     (failed-by (c .before .before .finishable .ensures) (c .before .if1 .taken)))
 
 number-requires : tie.Need-number-requires
@@ -43,8 +44,9 @@ load-requires c κs =
     let start = c .before .before .before .before in
     let a = start .args in
     let n = numbered-by (start .pre .1) (c .before .before .finishable .ensures) (c .before .if1 .left) in
-    room-at (a .from) (c .number .result) (queueCount (a .largest) (a .bound)) (width .places) (start .pre .2)
-    (omega (arith, number-in-below (a .largest) (a .bound) (a .queue) (omega arith) n, c .number .ensures))
+    let few : suc (a .from + c .number .result) ≤ a .from + queueCount (a .largest) (a .bound) =
+    omega (arith, number-in-below (a .largest) (a .bound) (a .queue) (omega arith) n, c .number .ensures) in
+    fewer-fit width few (start .pre .2)
 
 returns-2 : tie.Need-returns-2
 returns-2 c =
@@ -52,7 +54,7 @@ returns-2 c =
     c .load .ensures ∙
     (ap (λ (i : ℕ). readAt width (a .buffer .now) (a .from + i)) (c .before .number .ensures) ∙
     sym
-    (read-in-row (a .largest) (a .buffer .now) (a .from) (queueIn (a .bound) (a .queue))
+    (read-in-row width (a .largest) (a .buffer .now) (a .from) (queueIn (a .bound) (a .queue))
     (passed-by (c .before .before .before .finishable .ensures) (c .before .before .if1 .left))))
 
 pub value-in-row-spec : {M : Type 1} → statement M

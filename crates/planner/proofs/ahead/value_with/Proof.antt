@@ -2,6 +2,7 @@
 use mathlib.Core.Path.{ap, _∙_}
 use native.Mathlib.Omega.{arith}
 use borrow.Author.Needs.{needs}
+use Rattle.value.specs.Narrow.{width}
 use Rattle.planner.specs.Passes.{valueInRow}
 use Rattle.planner.proofs.FirstPass.{arrived-in}
 use Rattle.planner.proofs.ahead.value_with.Statement.{statement}
@@ -18,7 +19,7 @@ returns c =
     let start = c .before .before .before in
     let a = start .args in
     c .value-in-row .ensures ∙
-    ap (valueInRow (a .sizes .largest) (a .values .now) (a .next))
+    ap (valueInRow width (a .sizes .largest) (a .values .now) (a .next))
     (arrived-in (a .sizes .bound) (a .queue) (a .one .size) (a .one .deadline) (start .pre .1 .bound-high) (omega arith)
     (c .before .arrive .ensures))
 

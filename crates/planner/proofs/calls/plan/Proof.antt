@@ -1,13 +1,42 @@
 -- `plan` meets its contract: the call is refused and nothing is touched, or both tables are filled and the first value is the answer's.
-use mathlib.Core.Path.{sym, _∙_}
+use Prim.Native.Nat.{_*_, _≤_}
+use mathlib.Core.Path.{_≡_, sym, _∙_}
 use native.Mathlib.Omega.{arith}
 use borrow.Author.Needs.{needs}
+use lib.ListN.{length}
 use Rattle.model.proofs.Refusal.{accepted}
-use Rattle.model.specs.Counted.{counted}
-use Rattle.planner.proofs.Refusals.{plan-accepted, refused-plan, filled-plan, sizes-small, place-is, first-within}
+use Rattle.model.proofs.Rooms.{plan-accepted}
+use Rattle.model.specs.Counted.{Counted, counted}
+use Rattle.model.specs.Plan.{planRefusal, valuesNeeded}
+use Rattle.model.specs.Refusal.{sheetRefusal}
+use Rattle.value.specs.Narrow.{width}
+use Rattle.planner.proofs.Refusals.{refused-plan, filled-plan, sizes-small, place-is, first-within}
 use Rattle.planner.proofs.Right.{planned-filled}
 use Rattle.planner.proofs.calls.plan.Statement.{statement}
 use Rattle.planner.proofs.calls.plan.Tie as tie
+
+-- the sheet, as it is known behind the test
+abbrev sheet : tie.Else1 → Counted
+sheet c = counted (c .before .before .before .before .before .before .args .sheet)
+
+-- there the call is not refused
+passed : (c : tie.Else1) →
+    let a = c .before .before .before .before .before .before .args in
+    planRefusal (sheet c) (length (a .values .now)) (length (a .plan .now)) ≡ 0
+passed c = sym (c .before .plan-refusal .ensures) ∙ c .if1 .left
+
+-- so that the sheet is accepted
+sheet-right : (c : tie.Else1) → sheetRefusal (sheet c) ≡ 0
+sheet-right c = plan-accepted (sheet c) _ _ (passed c) .0
+
+-- the values have room, at one place each
+values-fit : (c : tie.Else1) →
+    valuesNeeded (sheet c) * width .places ≤ length (c .before .before .before .before .before .before .args .values .now)
+values-fit c = omega (arith, plan-accepted (sheet c) _ _ (passed c) .1)
+
+-- and the queues are few
+queues-few : (c : tie.After-sizes-of) → c .sizes-of .result .queues ≤ 65535
+queues-few c = sizes-small (sheet (c .before .before)) (sheet-right (c .before .before)) (c .sizes-of .ensures) .0
 
 table-requires : tie.Need-table-requires
 table-requires c κs = search needs
@@ -26,47 +55,31 @@ returns c =
     (answer .0) (answer .1) (answer .2)
 
 sizes-of-requires : tie.Need-sizes-of-requires
-sizes-of-requires c κs =
-    let told = c .before in
-    let passed = sym (told .before .plan-refusal .ensures) ∙ told .if1 .left in
-    (told .before .before .before .table .ensures, plan-accepted (counted (told .before .before .before .before .before .before .args .sheet)) _ _ passed .0)
+sizes-of-requires c κs = (c .before .before .before .before .table .ensures, sheet-right (c .before))
 
 fill-requires : tie.Need-fill-requires
 fill-requires c κs =
     let sizes = c .before .before .before in
-    let told = sizes .before .before in
-    let s = counted (told .before .before .before .before .before .before .args .sheet) in
-    let passed = sym (told .before .plan-refusal .ensures) ∙ told .if1 .left in
-    let right = plan-accepted s _ _ passed in (
-      record { holds = told .before .before .before .table .ensures; accepted = right .0; sized = sizes .sizes-of .ensures },
-      right .2,
-      omega (arith, right .1),
+    let told = sizes .before .before in (
+      record { holds = told .before .before .before .table .ensures; accepted = sheet-right told; sized = sizes .sizes-of .ensures },
+      plan-accepted (sheet told) _ _ (passed told) .2,
+      values-fit told,
     )
 
 cast-planned : tie.Need-cast-planned
-cast-planned c =
-    let sizes = c .before .before .before .before .before .before .before .before .before in
-    let told = sizes .before .before in
-    let s = counted (told .before .before .before .before .before .before .args .sheet) in
-    let passed = sym (told .before .plan-refusal .ensures) ∙ told .if1 .left in
-    omega (arith, sizes-small s (plan-accepted s _ _ passed .0) (sizes .sizes-of .ensures) .0)
+cast-planned c = omega (arith, queues-few (c .before .before .before .before .before .before .before .before .before))
 
 place-requires : tie.Need-place-requires
 place-requires c κs =
-    let sizes = c .before .before .before .before .before .before .before .before .before .before in
-    let told = sizes .before .before in
-    let s = counted (told .before .before .before .before .before .before .args .sheet) in
-    let passed = sym (told .before .plan-refusal .ensures) ∙ told .if1 .left in
-    (sizes-small s (plan-accepted s _ _ passed .0) (sizes .sizes-of .ensures) .0, omega arith, omega arith)
+    (queues-few (c .before .before .before .before .before .before .before .before .before .before), omega arith, omega arith)
 
 load-requires : tie.Need-load-requires
 load-requires c κs =
     let filled = c .before .before .before .before .before .before .before in
     let sizes = filled .before .before .before .before in
     let told = sizes .before .before in
-    let s = counted (told .before .before .before .before .before .before .args .sheet) in
-    let passed = sym (told .before .plan-refusal .ensures) ∙ told .if1 .left in
-    first-within s (sizes .sizes-of .ensures) _ _ _ passed (filled .fill .ensures .values-length) (c .place .ensures)
+    first-within width (sheet told) (sizes .sizes-of .ensures) (sheet-right told) (values-fit told) (filled .fill .ensures .values-length)
+    (c .place .ensures)
 
 planned-requires : tie.Need-planned-requires
 planned-requires c κs = search needs
@@ -82,12 +95,10 @@ returns-2 c =
     let filled = c .before .before .before .before .before .before .before .before .before in
     let sizes = filled .before .before .before .before in
     let told = sizes .before .before in
-    let s = counted (told .before .before .before .before .before .before .args .sheet) in
-    let passed = sym (told .before .plan-refusal .ensures) ∙ told .if1 .left in
-    let first = place-is s (sizes .sizes-of .ensures) 0 0 (c .before .before .place .ensures) in
+    let first = place-is (sheet told) (sizes .sizes-of .ensures) 0 0 (c .before .before .place .ensures) in
     let answer = c .planned .ensures in
-    filled-plan s passed
-    (planned-filled s (accepted s (plan-accepted s _ _ passed .0)) (filled .fill .ensures) _ first (c .before .load .ensures)
+    filled-plan (sheet told) (passed told)
+    (planned-filled (sheet told) (accepted (sheet told) (sheet-right told)) (filled .fill .ensures) _ first (c .before .load .ensures)
     (answer .1 ∙ sizes .sizes-of .ensures .queues-is) (answer .0) (answer .2))
 
 pub plan-spec : {M : Type 1} → statement M

@@ -1,48 +1,82 @@
+-- `plan_refusal` meets its contract: the sheet is refused, or the values are too short for T + 1 rows, or the plan for T, or neither.
+use Prim.Native.Nat.{_*_, _≤_}
+use mathlib.Core.Path.{_≡_, sym, _∙_}
+use native.Mathlib.Omega.{arith}
 use borrow.Author.Needs.{needs}
+use borrow.Author.Tests.{leb-true, leb-false}
+use Rattle.model.proofs.Rooms.{plan-refused, plan-short-values, plan-short-plan, plan-fits}
+use Rattle.model.specs.Counted.{counted}
+use Rattle.model.specs.Refusal.{sheetRefusal}
+use Rattle.sheets.proofs.Answers.{passed-by, failed-by}
+use Rattle.value.specs.Narrow.{width}
+use Rattle.planner.proofs.Refusals.{sizes-small, place-is, needed-is}
 use Rattle.planner.proofs.calls.plan_refusal.Statement.{statement}
 use Rattle.planner.proofs.calls.plan_refusal.Tie as tie
-use Rattle.planner.proofs.calls.plan_refusal.Reads as reads
-use Rattle.planner.proofs.calls.plan_refusal.Lts as lts
-use Rattle.planner.proofs.sizes.place.Reads as place-reads
-use Rattle.planner.proofs.sizes.sizes_of.Reads as sizes-of-reads
-use Rattle.sheets.proofs.sheet_refusal.Reads as sheet-refusal-reads
-use Rattle.value.proofs.fit.Reads as fit-reads
 
--- src/calls.rt:74:9
+-- behind the first test the sheet is accepted
+passed : (c : tie.Else1) → sheetRefusal (counted (c .before .before .args .sheet)) ≡ 0
+passed c = sym (c .before .sheet-refusal .ensures) ∙ c .if1 .left
+
+-- so that its queues and its slots are few
+small : (c : tie.After-sizes-of) → (c .sizes-of .result .queues ≤ 65535) × (c .before .before .before .args .sheet .horizon ≤ 200)
+small c = sizes-small (counted (c .before .before .before .args .sheet)) (passed (c .before)) (c .sizes-of .ensures)
+
 sheet-refusal-requires : tie.Need-sheet-refusal-requires
 sheet-refusal-requires c κs = search needs
 
--- src/calls.rt:76:9
 returns : tie.Need-returns
-returns c = ?
+returns c =
+    let a = c .before .before .args in
+    plan-refused (counted (a .sheet)) (a .values-room) (a .plan-room) (c .before .sheet-refusal .ensures) (c .if1 .taken)
 
--- src/calls.rt:78:9
 sizes-of-requires : tie.Need-sizes-of-requires
 sizes-of-requires c κs = search needs
 
--- src/calls.rt:80:9
 place-requires : tie.Need-place-requires
-place-requires c κs = ?
+place-requires c κs = (small c .0, omega (arith, small c .1), omega (arith, small c .0))
 
--- src/calls.rt:79:9
 fit-requires : tie.Need-fit-requires
 fit-requires c κs = search needs
 
--- src/calls.rt:83:9
 returns-2 : tie.Need-returns-2
-returns-2 c = ?
+returns-2 c =
+    let sizes = c .before .before .before in
+    let a = sizes .before .before .before .args in
+    let s = counted (a .sheet) in
+    plan-short-values s (a .values-room) (a .plan-room) (passed (sizes .before))
+    (omega (
+      arith,
+      leb-false (c .before .before .place .result * width .places) (a .values-room) (failed-by (c .before .fit .ensures) (c .if2 .taken)),
+      needed-is s (sizes .sizes-of .ensures) (c .before .before .place .ensures),
+    ))
 
--- src/calls.rt:85:20
 place-requires-2 : tie.Need-place-requires-2
-place-requires-2 c κs = ?
+place-requires-2 c κs =
+    let few = small (c .before .before .before) in
+    (few .0, omega (arith, few .1), omega arith)
 
--- src/calls.rt:86:9
 returns-3 : tie.Need-returns-3
-returns-3 c = ?
+returns-3 c =
+    let sizes = c .before .before .before .before .before in
+    let a = sizes .before .before .before .args in
+    let s = counted (a .sheet) in
+    plan-short-plan s (a .values-room) (a .plan-room) (passed (sizes .before))
+    (omega (arith, c .if3 .taken, place-is s (sizes .sizes-of .ensures) (s .horizon) 0 (c .before .place2 .ensures)))
 
--- src/calls.rt:70:1
 returns-4 : tie.Need-returns-4
-returns-4 c = ?
+returns-4 c =
+    let fitted = c .before .before in
+    let sizes = fitted .before .before .before in
+    let a = sizes .before .before .before .args in
+    let s = counted (a .sheet) in
+    plan-fits s (a .values-room) (a .plan-room) (passed (sizes .before))
+    (omega (
+      arith,
+      leb-true (fitted .before .before .place .result * width .places) (a .values-room)
+          (passed-by (fitted .before .fit .ensures) (fitted .if2 .left)),
+      needed-is s (sizes .sizes-of .ensures) (fitted .before .before .place .ensures),
+    ))
+    (omega (arith, c .if3 .left, place-is s (sizes .sizes-of .ensures) (s .horizon) 0 (c .before .place2 .ensures)))
 
 pub plan-refusal-spec : {M : Type 1} → statement M
 plan-refusal-spec =

@@ -1,11 +1,31 @@
 -- `row` meets its contract: the call is refused, or the slot is not one of the sheet's, or the part is the slot's row.
-use mathlib.Core.Path.{sym, _∙_}
+use Prim.Native.Nat.{_+_, _*_, _≤_}
+use mathlib.Core.Path.{_≡_, sym, _∙_}
 use native.Mathlib.Omega.{arith}
 use borrow.Author.Needs.{needs}
+use lib.ListN.{length}
+use Rattle.model.proofs.Rooms.{row-accepted, row-none, row-past, row-part}
 use Rattle.model.specs.Counted.{counted}
-use Rattle.planner.proofs.Refusals.{row-accepted, sizes-small, place-is, row-room, row-none, row-past, row-part}
+use Rattle.model.specs.Plan.{rowRefusal}
+use Rattle.planner.proofs.Refusals.{sizes-small, place-is, row-room}
 use Rattle.planner.proofs.calls.row.Statement.{statement}
 use Rattle.planner.proofs.calls.row.Tie as tie
+
+-- behind the first test the call is not refused
+passed : (c : tie.Else1) →
+    let a = c .before .before .before .before .before .args in
+    rowRefusal (counted (a .sheet)) (length (a .plan .now)) ≡ 0
+passed c = sym (c .before .row-refusal .ensures) ∙ c .if1 .left
+
+-- and behind the second one the slot's row, and the first one, end within the plan
+within : (c : tie.After-sizes-of) →
+    let a = c .before .before .before .before .before .before .before .before .before .args in
+    let queues = c .sizes-of .result .queues in
+    (a .slot * queues + queues ≤ length (a .plan .now)) × (queues ≤ length (a .plan .now))
+within c =
+    let told = c .before .before in
+    let a = told .before .before .before .before .before .before .before .args in
+    row-room (counted (a .sheet)) (c .sizes-of .ensures) (length (a .plan .now)) (a .slot) (passed (told .before .before)) (told .if2 .left)
 
 table-requires : tie.Need-table-requires
 table-requires c κs = search needs
@@ -31,30 +51,19 @@ returns-2 c =
 
 sizes-of-requires : tie.Need-sizes-of-requires
 sizes-of-requires c κs =
-    let told = c .before in
-    let a = told .before .before .before .before .before .before .before .args in
-    let passed = sym (told .before .before .before .row-refusal .ensures) ∙ told .before .before .if1 .left in
-    (told .before .before .before .before .before .table .ensures, row-accepted (counted (a .sheet)) _ passed .0)
+    let told = c .before .before .before in
+    let table = told .before .before .before in
+    (table .table .ensures, row-accepted (counted (table .before .before .args .sheet)) _ (passed told) .0)
 
 place-requires : tie.Need-place-requires
 place-requires c κs =
-    let told = c .before .before in
-    let a = told .before .before .before .before .before .before .before .args in
-    let passed = sym (told .before .before .before .row-refusal .ensures) ∙ told .before .before .if1 .left in
-    let s = counted (a .sheet) in
-    let small = sizes-small s (row-accepted s _ passed .0) (c .sizes-of .ensures) in
-    (small .0, omega (arith, small .1, told .if2 .left), omega arith)
+    let told = c .before .before .before .before in
+    let s = counted (told .before .before .before .before .before .args .sheet) in
+    let small = sizes-small s (row-accepted s _ (passed told) .0) (c .sizes-of .ensures) in
+    (small .0, omega (arith, small .1, c .before .before .if2 .left), omega arith)
 
 add-end : tie.Need-add-end
-add-end c =
-    let told = c .before .before .before .before in
-    let a = told .before .before .before .before .before .before .before .args in
-    let passed = sym (told .before .before .before .row-refusal .ensures) ∙ told .before .before .if1 .left in
-    omega (
-      arith,
-      row-room (counted (a .sheet)) (c .before .before .sizes-of .ensures) _ (a .slot) passed (told .if2 .left),
-      c .before .place .ensures,
-    )
+add-end c = omega (arith, within (c .before .before), c .before .place .ensures)
 
 sub-result : tie.Need-sub-result
 sub-result c = search needs
@@ -63,24 +72,15 @@ part-result-start : tie.Need-part-result-start
 part-result-start c = search needs
 
 part-result-end : tie.Need-part-result-end
-part-result-end c =
-    let told = c .before .before .before .before in
-    let a = told .before .before .before .before .before .before .before .args in
-    let passed = sym (told .before .before .before .row-refusal .ensures) ∙ told .before .before .if1 .left in
-    omega (
-      arith,
-      row-room (counted (a .sheet)) (c .before .before .sizes-of .ensures) _ (a .slot) passed (told .if2 .left),
-      c .before .place .ensures,
-    )
+part-result-end c = omega (arith, within (c .before .before), c .before .place .ensures)
 
 returns-3 : tie.Need-returns-3
 returns-3 c =
     let sizes = c .before .before .before in
     let told = sizes .before .before in
     let a = told .before .before .before .before .before .before .before .args in
-    let passed = sym (told .before .before .before .row-refusal .ensures) ∙ told .before .before .if1 .left in
     let s = counted (a .sheet) in
-    row-part s (a .plan .now) (a .slot) passed (told .if2 .left)
+    row-part s (a .plan .now) (a .slot) (passed (told .before .before)) (told .if2 .left)
     (place-is s (sizes .sizes-of .ensures) (a .slot) 0 (c .before .before .place .ensures)) (sizes .sizes-of .ensures .queues-is)
 
 pub row-spec : {M : Type 1} → statement M

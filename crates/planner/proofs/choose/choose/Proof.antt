@@ -8,10 +8,10 @@ use Rattle.model.specs.Queue.{queueIn}
 use Rattle.model.specs.declared.Speed.{Speed}
 use Rattle.queues.proofs.Places.{length-in}
 use Rattle.sheets.proofs.Places.{speed-counts}
-use Rattle.value.specs.Narrow.{valueOf}
+use Rattle.value.specs.Narrow.{width, valueOf}
 use Rattle.planner.specs.Passes.{IsChoice}
-use Rattle.planner.proofs.SecondPass.{leastOf, least-none, least-more, least-whole}
-use Rattle.planner.proofs.SecondPass.{ready-accepted, ready-ranges, cost-asked, cost-told}
+use Rattle.planner.proofs.FirstPass.{ready-accepted, ready-ranges}
+use Rattle.planner.proofs.SecondPass.{leastOf, least-none, least-more, least-whole, cost-asked, cost-told}
 use Rattle.planner.proofs.choose.choose.Statement.{statement}
 use Rattle.planner.proofs.choose.choose.Tie as tie
 
@@ -50,8 +50,8 @@ cost-requires c κs =
     let a = start .args in
     let place = c .before .before .loop .place in
     let low = c .before .loop-test .taken in
-    cost-asked (start .pre .0) (start .pre .1) (queueIn (a .sizes .bound) (a .queue)) (start .pre .2) (long start) place low
-    (getD (a .t2 .speeds) place zeroSpeed) (speed-counts (a .t2) place low)
+    cost-asked width (start .pre .0) (start .pre .1) (queueIn (a .sizes .bound) (a .queue)) (start .pre .2) (long start) place low
+    (getD (a .t2 .speeds) place zeroSpeed) (speed-counts (a .t2) place low) (omega arith)
 
 better-requires : tie.Need-better-requires Inv-loop μ-loop
 better-requires c κs = tt
@@ -72,7 +72,7 @@ loop-again c =
     let one = speed-counts (a .t2) (l .place) low in (
       omega arith,
       least-more (counted (a .t2)) (a .slot .left) w (l .place) low (ap (λ (x : Speed). x .speed) one)
-          (cost-told (start .pre .0) (start .pre .1) w (start .pre .2) (long start) (l .place) low
+          (cost-told width (start .pre .0) (start .pre .1) w (start .pre .2) (long start) (l .place) low
           (getD (a .t2 .speeds) (l .place) zeroSpeed) one (c .before .cost .ensures))
           (l .inv .1) (c .better .ensures),
     )

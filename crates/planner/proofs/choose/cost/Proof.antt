@@ -24,7 +24,7 @@ returns c =
     let a = start .args in
     c .none .ensures ∙
     sym
-    (cost-none (a .sizes .largest) (a .sizes .bound) (a .ahead .now) (valueOf (a .scale)) (a .t5) (a .one .speed) (a .one .energy)
+    (cost-none width (a .sizes .largest) (a .sizes .bound) (a .ahead .now) (valueOf (a .scale)) (a .t5) (a .one .speed) (a .one .energy)
     (start .pre .2) (c .before .if1 .taken))
 
 after-requires : tie.Need-after-requires
@@ -44,7 +44,7 @@ add-requires c κs =
     let start = c .before .before .before .before .before .before in
     let a = start .args in
     subst (λ (r : Option ℕ). Below (width .limit) r)
-    (cost-some (a .sizes .largest) (a .sizes .bound) (a .ahead .now) (valueOf (a .scale)) (a .t5) (a .one .speed) (a .one .energy)
+    (cost-some width (a .sizes .largest) (a .sizes .bound) (a .ahead .now) (valueOf (a .scale)) (a .t5) (a .one .speed) (a .one .energy)
     (start .pre .2) (start .pre .1 .bound-high) (omega arith) (c .before .before .before .if1 .left)
     (c .before .before .after .ensures) (c .value-in-row .ensures))
     (start .pre .4)
@@ -55,7 +55,7 @@ returns-2 c =
     let a = start .args in
     c .add .ensures ∙
     sym
-    (cost-some (a .sizes .largest) (a .sizes .bound) (a .ahead .now) (valueOf (a .scale)) (a .t5) (a .one .speed) (a .one .energy)
+    (cost-some width (a .sizes .largest) (a .sizes .bound) (a .ahead .now) (valueOf (a .scale)) (a .t5) (a .one .speed) (a .one .energy)
     (start .pre .2) (start .pre .1 .bound-high) (omega arith) (c .before .before .before .before .if1 .left)
     (c .before .before .before .after .ensures) (c .before .value-in-row .ensures))
 

@@ -2,15 +2,17 @@
 use Prim.Native.Nat.{_≤_, _-_}
 use native.Mathlib.Omega.{arith}
 use Rattle.model.specs.Counted.{counted}
+use Rattle.value.specs.Narrow.{width}
 use Rattle.planner.specs.Passes.{PlannedTo}
+use Rattle.planner.proofs.FirstPass.{ready-ranges}
 use Rattle.planner.proofs.SecondPass.{filled-none, filled-more, filled-whole}
-use Rattle.planner.proofs.SecondPass.{ready-ranges, number-low, queue-bearable, choose-asked, choose-told, speed-fits}
+use Rattle.planner.proofs.SecondPass.{number-low, queue-bearable, choose-asked, choose-told, speed-fits}
 use Rattle.planner.proofs.choose.fill_row.Statement.{statement}
 use Rattle.planner.proofs.choose.fill_row.Tie as tie
 
 abbrev Inv-loop : tie.InvT-loop
 Inv-loop counts sheet sizes slot ahead values₀ plan₀ number₀ values plan number =
-    PlannedTo (counted sheet) slot number values₀ plan₀ values plan × (number ≤ sizes .queues)
+    PlannedTo width (counted sheet) (slot .left) (slot .this) (slot .row) number values₀ plan₀ values plan × (number ≤ sizes .queues)
 
 abbrev μ-loop : tie.MeasureT-loop
 μ-loop counts sheet sizes slot ahead values₀ plan₀ number₀ values plan number = sizes .queues - number
@@ -18,7 +20,7 @@ abbrev μ-loop : tie.MeasureT-loop
 loop-holds : tie.Need-loop-holds Inv-loop μ-loop
 loop-holds c =
     let a = c .before .before .before .args in
-    (filled-none (counted (a .sheet)) (a .slot) (a .values .now) (a .plan .now), omega arith)
+    (filled-none width (counted (a .sheet)) (a .slot .left) (a .slot .this) (a .slot .row) (a .values .now) (a .plan .now), omega arith)
 
 queue-at-requires : tie.Need-queue-at-requires Inv-loop μ-loop
 queue-at-requires c κs =
@@ -74,10 +76,10 @@ loop-again c =
     let a = start .args in
     let ready = start .pre .0 in
     let l = chose .before .before .before .before .loop in
-    let low = chose .before .before .if1 .taken in (
-      filled-more (counted (a .sheet)) (a .slot) (a .values .now) (a .plan .now) (queue-bearable ready (l .number) low)
-          (choose-told ready (l .number) low (chose .before .queue-at .ensures) (chose .choose .ensures)) (l .inv .0)
-          (c .before .before .before .before .store .ensures) (omega arith),
+    let low = chose .before .before .if1 .taken in
+    let told = choose-told ready (l .number) low (chose .before .queue-at .ensures) (chose .choose .ensures) in (
+      filled-more width (counted (a .sheet)) (a .slot .left) (a .slot .this) (a .slot .row) (a .values .now) (a .plan .now)
+          (queue-bearable ready (l .number) low) told (l .inv .0) (c .before .before .before .before .store .ensures) (omega arith),
       omega arith,
     )
 
@@ -92,7 +94,7 @@ returns c =
     let start = c .before .before .before .before .before .before in
     let a = start .args in
     let l = c .before .before .loop in
-    filled-whole (counted (a .sheet)) (a .slot) (a .values .now) (a .plan .now)
+    filled-whole width (counted (a .sheet)) (a .slot .left) (a .slot .this) (a .slot .row) (a .values .now) (a .plan .now)
     (omega (arith, start .pre .0 .prepared .sized .queues-is)) (l .inv .0)
 
 pub fill-row-spec : {M : Type 1} → statement M

@@ -2,21 +2,22 @@
 use native.Mathlib.Omega.{arith}
 use borrow.Author.Needs.{needs}
 use Rattle.model.specs.Counted.{counted}
-use Rattle.model.proofs.Refusal.{accepted}
+use Rattle.value.specs.Narrow.{width}
 use Rattle.planner.proofs.Backward.{end-room, planned-none, planned-since}
+use Rattle.planner.proofs.Refusals.{sizes-small}
 use Rattle.planner.proofs.rows.fill.Statement.{statement}
 use Rattle.planner.proofs.rows.fill.Tie as tie
 
 place-requires : tie.Need-place-requires
 place-requires c κs =
     let start = c .before .before in
-    let a = accepted (counted (start .args .sheet)) (start .pre .0 .accepted) in
-    (omega (arith, a .queues-high, start .pre .0 .sized .queues-is), a .ranged .horizon-high, omega arith)
+    let small = sizes-small (counted (start .args .sheet)) (start .pre .0 .accepted) (start .pre .0 .sized) in
+    (small .0, omega (arith, small .1), omega arith)
 
 fill-end-requires : tie.Need-fill-end-requires
 fill-end-requires c κs =
     let start = c .before .before .before .before in
-    end-room (counted (start .args .sheet)) (start .args .sizes .queues) (c .before .place .result) (start .pre .0 .sized .queues-is)
+    end-room width (counted (start .args .sheet)) (start .args .sizes .queues) (c .before .place .result) (start .pre .0 .sized .queues-is)
     (c .before .place .ensures) (start .args .values .now) (start .pre .2)
 
 fill-slots-requires : tie.Need-fill-slots-requires
@@ -27,7 +28,7 @@ fill-slots-requires c κs =
       start .pre .0,
       start .pre .1,
       omega (arith, start .pre .2, ended .fill-end .ensures .same-length),
-      planned-none (counted (start .args .sheet)) (start .args .sizes .queues) (placed .place .result) (start .pre .0 .sized .queues-is)
+      planned-none width (counted (start .args .sheet)) (start .args .sizes .queues) (placed .place .result) (start .pre .0 .sized .queues-is)
           (placed .place .ensures) (ended .fill-end .ensures) (start .args .plan .now),
     )
 
@@ -43,7 +44,7 @@ returns c =
     let ended = called .before .before .before .before .before in
     let placed = ended .before .before in
     let start = placed .before .before .before in
-    planned-since (counted (start .args .sheet)) (start .args .sizes .queues) (placed .place .result) (start .pre .0 .sized .queues-is)
+    planned-since width (counted (start .args .sheet)) (start .args .sizes .queues) (placed .place .result) (start .pre .0 .sized .queues-is)
     (placed .place .ensures) (ended .fill-end .ensures) (start .args .sheet .horizon) (called .fill-slots .ensures)
 
 pub fill-spec : {M : Type 1} → statement M

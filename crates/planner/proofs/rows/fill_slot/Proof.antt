@@ -1,6 +1,7 @@
 -- `fill_slot` meets its contract: what the first pass leaves is what the second one needs.
 use borrow.Author.Needs.{needs}
 use Rattle.model.specs.Counted.{counted}
+use Rattle.value.specs.Narrow.{width}
 use Rattle.planner.proofs.Backward.{ahead-stands}
 use Rattle.planner.proofs.rows.fill_slot.Statement.{statement}
 use Rattle.planner.proofs.rows.fill_slot.Tie as tie
@@ -14,7 +15,7 @@ fill-row-requires c κs =
     let start = called .before .before .before .before .before .before in
     let pre = start .pre in (
       pre .0,
-      ahead-stands (counted (start .args .sheet)) (start .args .slot .left) (start .args .sizes .after) (pre .0 .prepared .sized .after-is)
+      ahead-stands width (counted (start .args .sheet)) (start .args .slot .left) (start .args .sizes .after) (pre .0 .prepared .sized .after-is)
           (pre .2) (called .fill-ahead .ensures),
       pre .3,
       pre .4,

@@ -7,21 +7,26 @@ use native.Mathlib.Nat.{pow-zero}
 use native.Mathlib.Numerals.{add-one}
 use native.Mathlib.Omega.{arith}
 use lib.ListN.{length}
-use Rattle.model.specs.Counted.{counted, W}
+use Rattle.model.specs.Counted.{Counted, counted, W}
 use Rattle.model.proofs.Refusal.{accepted, fields-right}
-use Rattle.value.specs.Narrow.{valueOf}
+use Rattle.value.specs.Narrow.{width, valueOf}
 use Rattle.planner.specs.Passes.{PlannedFrom}
 use Rattle.planner.proofs.Backward.{after-room, scale-next, scale-room, Stands, slot-stands, slot-in-plan, values-room, plan-room, next-stands, planned-more}
+use Rattle.planner.proofs.Refusals.{sizes-small}
 use Rattle.planner.proofs.rows.fill_slots.Statement.{statement}
 use Rattle.planner.proofs.rows.fill_slots.Tie as tie
 
 abbrev Inv-loop : tie.InvT-loop
 Inv-loop counts sheet sizes values₀ plan₀ ahead₀ all scale₀ left₀ values plan ahead scale left =
     (left ≤ sheet .horizon) × (length ahead ≡ 7084) × (valueOf scale ≡ some (W (counted sheet) ^ left)) ×
-    PlannedFrom (counted sheet) left values₀ plan₀ values plan
+    PlannedFrom width (counted sheet) left values₀ plan₀ values plan
 
 abbrev μ-loop : tie.MeasureT-loop
 μ-loop counts sheet sizes values₀ plan₀ ahead₀ all scale₀ left₀ values plan ahead scale left = sheet .horizon - left
+
+-- the sheet, as a turn of the loop knows it
+abbrev sheetIn : tie.At-loop Inv-loop μ-loop → Counted
+sheetIn turn = counted (turn .before .before .before .before .before .args .sheet)
 
 weights-requires : tie.Need-weights-requires Inv-loop μ-loop
 weights-requires c κs = fields-right (counted (c .before .before .args .sheet)) (c .before .before .pre .0 .accepted)
@@ -41,36 +46,36 @@ add-requires : tie.Need-add-requires Inv-loop μ-loop
 add-requires c κs =
     let turn = c .before .before .before in
     let start = turn .before .before .before .before .before in
-    let s = counted (start .args .sheet) in
-    scale-room s (accepted s (start .pre .0 .accepted)) (turn .loop .left) (c .before .if1 .taken) (turn .before .before .weights .ensures)
-    (c .of2 .ensures) (turn .loop .inv .2)
+    let s = sheetIn turn in
+    scale-room width (omega arith) s (accepted s (start .pre .0 .accepted)) (turn .loop .left) (c .before .if1 .taken)
+    (turn .before .before .weights .ensures) (c .of2 .ensures) (turn .loop .inv .2)
 
 slot-with-requires : tie.Need-slot-with-requires Inv-loop μ-loop
 slot-with-requires c κs =
     let start = c .before .before .before .before .before .before .before .before .before in
-    let a = accepted (counted (start .args .sheet)) (start .pre .0 .accepted) in
-    (omega (arith, a .queues-high, start .pre .0 .sized .queues-is), a .ranged .horizon-high, c .before .before .if1 .taken)
+    let small = sizes-small (counted (start .args .sheet)) (start .pre .0 .accepted) (start .pre .0 .sized) in
+    (small .0, omega (arith, small .1), omega (arith, c .before .before .if1 .taken))
 
 -- the slot of this turn stands where it should
 stands : (c : tie.After-slot-with Inv-loop μ-loop) →
     let turn = c .before .before .before .before .before in
-    Stands (counted (turn .before .before .before .before .before .args .sheet)) (turn .loop .left) (c .slot-with .result)
+    let slot = c .slot-with .result in
+    Stands (sheetIn turn) (turn .loop .left) (slot .left) (slot .this) (slot .next) (slot .row)
 stands c =
     let turn = c .before .before .before .before .before in
     let start = turn .before .before .before .before .before in
-    slot-stands (counted (start .args .sheet)) (turn .loop .left) (c .slot-with .result) (start .pre .0 .sized .queues-is)
-    (c .before .before .before .if1 .taken) (c .slot-with .ensures)
+    let made = c .slot-with .ensures in
+    slot-stands (sheetIn turn) (turn .loop .left) (start .pre .0 .sized .queues-is) (c .before .before .before .if1 .taken) (made .0) (made .2)
+    (made .3) (made .4)
 
 -- and its scale is right
 scaled : (c : tie.After-add Inv-loop μ-loop) →
     let turn = c .before .before .before .before in
-    valueOf (c .add .result) ≡ some (W (counted (turn .before .before .before .before .before .args .sheet)) ^ suc (turn .loop .left))
+    valueOf (c .add .result) ≡ some (W (sheetIn turn) ^ suc (turn .loop .left))
 scaled c =
     let turn = c .before .before .before .before in
-    let start = turn .before .before .before .before .before in
     c .add .ensures ∙
-    scale-next (W (counted (start .args .sheet))) (turn .loop .left) (turn .before .before .weights .ensures) (c .before .of2 .ensures)
-    (turn .loop .inv .2)
+    scale-next (W (sheetIn turn)) (turn .loop .left) (turn .before .before .weights .ensures) (c .before .of2 .ensures) (turn .loop .inv .2)
 
 slice-aggregate-fill-slot : tie.Need-slice-aggregate-fill-slot Inv-loop μ-loop
 slice-aggregate-fill-slot c = sym (c .before .before .before .before .before .before .loop .inv .1)
@@ -80,17 +85,16 @@ fill-slot-requires c κs =
     let made = c .before .before .before in
     let turn = made .before .before .before .before .before in
     let start = turn .before .before .before .before .before in
-    let s = counted (start .args .sheet) in
+    let s = sheetIn turn in
     let k = turn .loop .left in
-    let slot = made .slot-with .result in
     let at = stands made in
     let sized = start .pre .0 .sized in
     let past = turn .loop .inv .3 in (
-      record { prepared = start .pre .0; in-plan = slot-in-plan s k slot at (made .slot-with .ensures .1) (scaled (made .before)) },
-      next-stands s k slot at past (start .pre .2),
+      record { prepared = start .pre .0; in-plan = slot-in-plan s k at (ap valueOf (made .slot-with .ensures .1) ∙ scaled (made .before)) },
+      next-stands width s k at past (start .pre .2),
       omega (arith, after-room s (accepted s (start .pre .0 .accepted)), sized .after-is, turn .loop .inv .1),
-      omega (arith, values-room s k slot at past (start .pre .2), sized .queues-is),
-      omega (arith, plan-room s k slot at past (start .pre .1), sized .queues-is),
+      omega (arith, values-room width s k at past (start .pre .2), sized .queues-is),
+      omega (arith, plan-room width s k at past (start .pre .1), sized .queues-is),
     )
 
 add-left : tie.Need-add-left Inv-loop μ-loop
@@ -104,12 +108,12 @@ loop-again c =
     let called = c .before .before .before .before .before in
     let made = called .before .before .before .before in
     let turn = made .before .before .before .before .before in
-    let s = counted (turn .before .before .before .before .before .args .sheet) in
+    let s = sheetIn turn in
     let k = turn .loop .left in (
       omega arith,
       called .fill-slot .kept .1 .1 .1 .1 .0 ∙ turn .loop .inv .1,
       scaled (made .before) ∙ ap (λ n. some (W s ^ n)) (sym (add-one k)),
-      planned-more s k (made .slot-with .result) (stands made) (turn .loop .inv .3) (called .fill-slot .ensures),
+      planned-more width s k (stands made) (turn .loop .inv .3) (called .fill-slot .ensures),
     )
 
 same-length : tie.Need-same-length Inv-loop μ-loop
@@ -122,9 +126,9 @@ returns : tie.Need-returns Inv-loop μ-loop
 returns c =
     let turn = c .before .before in
     let start = turn .before .before .before .before .before in
-    let s = counted (start .args .sheet) in
+    let s = sheetIn turn in
     let all : turn .loop .left ≡ s .horizon = omega (arith, turn .loop .inv .0, c .if1 .left) in
-    subst (λ k. PlannedFrom s k (start .args .values .now) (start .args .plan .now) (turn .loop .values) (turn .loop .plan)) all
+    subst (λ k. PlannedFrom width s k (start .args .values .now) (start .args .plan .now) (turn .loop .values) (turn .loop .plan)) all
     (turn .loop .inv .3)
 
 pub fill-slots-spec : {M : Type 1} → statement M

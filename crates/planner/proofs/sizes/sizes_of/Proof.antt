@@ -1,13 +1,11 @@
 -- `sizes_of` meets its contract: the largest speed is M, and the counts are those of its queues and of the queues of one position fewer.
 use Prim.Native.Nat.{ℕ, _-_}
-use mathlib.Core.Path.{refl, ap, _∙_}
+use mathlib.Core.Path.{refl, sym, ap, _∙_}
 use native.Mathlib.Omega.{arith}
 use borrow.Author.Needs.{needs}
-use Rattle.model.proofs.Refusal.{accepted}
 use Rattle.model.specs.Counted.{counted, M}
 use Rattle.model.specs.Queue.{queueCount}
-use Rattle.model.specs.Refusal.{N}
-use Rattle.model.proofs.Refusal.{fields-right}
+use Rattle.model.proofs.Refusal.{fields-right, accepted, N-is}
 use Rattle.planner.proofs.FirstPass.{ranges-of, one-fewer}
 use Rattle.planner.proofs.sizes.sizes_of.Statement.{statement}
 use Rattle.planner.proofs.sizes.sizes_of.Tie as tie
@@ -36,14 +34,13 @@ queue-count-requires-2 c κs =
     (start .pre .0, ranges-of right (c .before .before .greatest-of .ensures .0) (omega arith))
 
 returns : tie.Need-returns
-unfolding N
 returns c =
     let s = counted (c .before .before .before .before .args .sheet) in
     let most = c .before .before .before .greatest-of .ensures .0 in
     record {
       largest-is = most;
       bound-is = refl;
-      queues-is = c .before .queue-count .ensures ∙ ap (λ (m : ℕ). queueCount m (s .bound)) most;
+      queues-is = c .before .queue-count .ensures ∙ ap (λ (m : ℕ). queueCount m (s .bound)) most ∙ sym (N-is s);
       after-is = c .queue-count2 .ensures ∙ ap (λ (m : ℕ). queueCount m (s .bound - 1)) most ∙ ap (queueCount (M s)) (one-fewer (s .bound));
     }
 
