@@ -3,8 +3,6 @@ pub mod Tests
 pub mod Counted
 pub mod Queues
 pub mod Refusal
-pub mod Recursion
-pub mod Rooms
 pub mod Readers
 pub mod Codes
 pub mod RoundTrip
@@ -12,3 +10,5 @@ pub mod Admissible
 pub mod Longer
 pub mod Leaves
 pub mod Cases
+pub mod Recursion
+pub mod Rooms

@@ -12,7 +12,7 @@ use lib.Dec.{T}
 use lib.ListN.{length, getD, set}
 use lib.Seq.{take-suc-set}
 use Rattle.process.specs.Recursion.{plus, times, only, worth}
-use Rattle.process.proofs.Value.{sum-or-none-start, sum-or-none-more}
+use Rattle.process.proofs.Equations.{sum-or-none-start, sum-or-none-more}
 use Rattle.model.specs.Counted.{Counted, counted, zeroJob, weightAt, sizeAt, deadlineAt, M}
 use Rattle.model.specs.Plan.{queueAt}
 use Rattle.model.specs.Queue.{Queue, total, queueIn, placesOf, bearable, bearableQueues, queueCount, numberOf, arrive}

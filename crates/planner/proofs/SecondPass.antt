@@ -15,7 +15,8 @@ use lib.ListN.{length, getD, set, replicate}
 use lib.Seq.{take-take, take-append-le}
 use Rattle.process.specs.Recursion.{plus, times, sumOrNone, only, Choice, nothing, chosen, choose, better, best, priced}
 use Rattle.process.specs.Ways.{Among}
-use Rattle.process.proofs.Value.{Found, best-found, plus-none, sum-or-none-more, best-none, cheaper-is}
+use Rattle.process.proofs.Equations.{sum-or-none-more, best-none, cheaper-is}
+use Rattle.process.proofs.Value.{Found, best-found, plus-none}
 use Rattle.model.specs.Counted.{Counted, zeroSpeed, speedAt, energyAt, weightAt, sizeAt, deadlineAt, speedsOf, W, M}
 use Rattle.model.specs.Plan.{processOf, queueAt}
 use Rattle.model.specs.Queue.{Queue, total, NeverFalls, queueIn, placesOf, bearable, bearableQueues, queueCount, run, arrive}

@@ -3,3 +3,4 @@ pub mod Definite
 pub mod Sums
 pub mod Value
 pub mod Eased
+pub mod Equations

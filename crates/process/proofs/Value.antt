@@ -9,7 +9,7 @@ use mathlib.Core.Logic.{_⊎_, inl, inr, ⊎-elim, _↔_}
 use native.Mathlib.Nat.{pow-suc, mul-right-comm, one-mul, mul-le-mul-left, le-refl}
 use native.Mathlib.Nat.{le-of-lt, add-le-add, not-suc-le-zero, le-of-suc-le-suc, eq-or-lt-of-le}
 use native.Mathlib.Omega.{arith}
-use lib.Dec.{T, ltb}
+use lib.Dec.{T}
 use lib.ListN.{length, getD, replicate}
 use borrow.Author.Tests.{ltb-true, ltb-false}
 use Rattle.process.specs.Sums.{sum, Events, overLists, weight}
@@ -79,16 +79,6 @@ pub times-upto : (N : Type 0) (m : ℕ) (r : Option ℕ) (u : ℕ) → UptoOr N 
 times-upto N m none u t = t
 times-upto N m (some v) u t = mul-le-mul-left m t
 
--- a sum of no terms is 0
-pub sum-or-none-start : (f : ℕ → Option ℕ) → sumOrNone f 0 ≡ some 0
-unfolding sumOrNone
-sum-or-none-start f = refl
-
--- and with one term more that term is added
-pub sum-or-none-more : (f : ℕ → Option ℕ) (n : ℕ) → sumOrNone f (suc n) ≡ plus (sumOrNone f n) (f n)
-unfolding sumOrNone
-sum-or-none-more f n = refl
-
 -- where a weighted sum is there, so is each term, and it is their sum
 sum-some : (w : ℕ → ℕ) (h : ℕ → Option ℕ) (n : ℕ) {t : ℕ} → sumOrNone (λ i. times (w i) (h i)) n ≡ some t →
     ((i : ℕ) → i < n → h i ≡ some (held (h i))) × (sum (λ i. w i * held (h i)) n ≡ t)
@@ -111,11 +101,7 @@ sum-upto N w h (suc n) u t =
 
 -- the least of several prices
 
--- an action is taken for an earlier one where it costs less, and only there
-pub cheaper-is : (v u : ℕ) → cheaper v u ≡ ltb v u
-unfolding cheaper
-cheaper-is v u = refl
-
+-- an action is taken for an earlier one only where it costs less
 pub cheaper-true : (v u : ℕ) → cheaper v u ≡ true → v < u
 unfolding cheaper
 cheaper-true v u e = ltb-true v u e
@@ -141,16 +127,6 @@ Found price actions j (chosen a v) =
     ((m : ℕ) → m < i → (u : ℕ) → Upto (price (getD actions m 0)) u → v < u)
 
 module _ (price : ℕ → Option ℕ) (actions : List ℕ) where
-  -- of no actions there is no least
-  pub best-none : best price actions 0 ≡ nothing
-  unfolding best
-  best-none = refl
-
-  -- and with one action more it is the better of the least so far and that action at its price
-  pub best-more : (j : ℕ) → best price actions (suc j) ≡ better (best price actions j) (getD actions j 0) (price (getD actions j 0))
-  unfolding best
-  best-more j = refl
-
   -- the least is at most each price
   pub best-upto : (j m u : ℕ) → m < j → Upto (price (getD actions m 0)) u → Upto (worth (best price actions j)) u
   unfolding best
@@ -179,31 +155,6 @@ module _ (price : ℕ → Option ℕ) (actions : List ℕ) where
       go (chosen b s) (some v) p q f = pick (getD actions j 0) b s v (cheaper v s) refl p refl q f
 
 module _ {S : Type 0} (P : Process S) (n : ℕ) (w : ℕ → ℕ) where
-  -- the recursion, one step at a time, for those who need not unfold it
-
-  -- with no slot left a state that is alive has a value, its price
-  pub value-end : (x : S) → value P n w zero x ≡ only (P .alive x) (some (P .last x))
-  unfolding value
-  value-end x = refl
-
-  -- with one slot more it has what the least over the actions is worth
-  pub value-step : (k : ℕ) (x : S) → value P n w (suc k) x ≡ only (P .alive x) (worth (choice P n w k (value P n w k) x))
-  unfolding value
-  value-step k x = refl
-
-  -- the least over the actions is the least of the whole list of them
-  pub choice-is : (k : ℕ) (ahead : S → Option ℕ) (x : S) →
-      choice P n w k ahead x ≡ best (priced P n w k ahead x) (P .actions) (length (P .actions))
-  unfolding choice
-  choice-is k ahead x = refl
-
-  -- an action that is allowed costs its own cost, for all lists that follow, and the weighted sum of what each event leads to
-  pub priced-is : (k : ℕ) (ahead : S → Option ℕ) (x : S) (a : ℕ) →
-      priced P n w k ahead x a ≡
-      only (P .allowed x a) (plus (some (sum w n ^ suc k * P .cost x a)) (sumOrNone (λ i. times (w i) (ahead (P .next x a i))) n))
-  unfolding priced
-  priced-is k ahead x a = refl
-
   -- the energy over one slot more: this slot's cost for all lists that follow, and what each event leads to
   pub energy-step : (k : ℕ) (x : S) (σ : Way) →
       energy P n w (suc k) x σ ≡
