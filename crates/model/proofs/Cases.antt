@@ -25,10 +25,9 @@ use Rattle.model.specs.declared.Job.{Job}
 use Rattle.model.specs.declared.Sheet.{Sheet}
 use Rattle.model.specs.declared.Speed.{Speed}
 use Rattle.model.specs.Tests.{check, everywhere}
-use Rattle.model.proofs.Computed.{sameOption, sameAnswer, sameState, sameBy, sameSpeed, sameJob, sameCounted, whole, sameBool, quickN, orderly, byteTest, decidesTest, costTest, rowTest, test, firstFailing, cases-pass}
+use Rattle.model.proofs.Computed.{valueFor, sameOption, sameAnswer, sameState, sameBy, sameSpeed, sameJob, sameCounted, whole, sameBool, quickN, orderly, byteTest, decidesTest, costTest, rowTest, test, firstFailing, cases-pass}
 use Rattle.model.proofs.Counted.{Climbs, climbs-rise, on-sheet}
 use Rattle.model.proofs.Queues.{queue-count}
-use Rattle.model.proofs.Recursion.{valueFor}
 use Rattle.model.proofs.Tests.{and-left, and-right, check-zero, then-left, then-right, everywhere-at}
 
 -- several tests together

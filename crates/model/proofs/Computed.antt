@@ -22,7 +22,6 @@ use Rattle.model.specs.declared.Job.{Job}
 use Rattle.model.specs.declared.Sheet.{Sheet}
 use Rattle.model.specs.declared.Speed.{Speed}
 use Rattle.model.specs.Tests.{check, _then_, inOrder, inTurn, everywhere, anywhere, firstPlace, greatest, listed}
-use Rattle.model.proofs.Recursion.{valueFor}
 
 -- tests of equality
 
@@ -85,6 +84,9 @@ unfoldable pub orderly : Counted → Bool
 orderly s = ltb 0 (s .jobCount) && everywhere (λ j. ltb (speedAt s j) (speedAt s (suc j))) (pred (s .speedCount))
 
 -- the recursion's value and plan for a sheet, k slots from its end
+
+abbrev pub valueFor : Counted → ℕ → Queue → Option ℕ
+valueFor s k w = value (processOf s) (s .jobCount) (weightAt s) k w
 
 unfoldable pub byteTest : Counted → ℕ → Queue → Option ℕ → ℕ → Bool
 byteTest s k w none byte = eqb byte 255

@@ -14,12 +14,9 @@ use Rattle.process.proofs.Value.{UptoOr}
 use Rattle.model.specs.Counted.{Counted, speedAt, weightAt, sizeAt, deadlineAt, speedsOf, energyOf, W, M, G}
 use Rattle.model.specs.Plan.{nextQueue, processOf}
 use Rattle.model.specs.Queue.{Queue, total, bearable, run, arrive}
+use Rattle.model.proofs.Computed.{valueFor}
 use Rattle.model.proofs.Counted.{length-speeds, at-speeds, on-sheet, energy-of-upto}
 use Rattle.model.proofs.Refusal.{G-covers}
-
--- the recursion's value of a queue, k slots from the sheet's end
-abbrev pub valueFor : Counted → ℕ → Queue → Option ℕ
-valueFor s k w = value (processOf s) (s .jobCount) (weightAt s) k w
 
 module _ (s : Counted) where
   -- with no slot left a queue has a value, 0, where it is bearable
