@@ -32,9 +32,9 @@ drop-same n l m long same =
 
 module _ (s : Counted) (a : Accepted s) where
   -- the recursion's value is the least scaled energy of a good way, or none where no way is good
-  pub value-right : (k : ℕ) (w : Queue) → IsValue (processOf s) (s .jobCount) (weightAt s) k w (valueWith s k w)
+  pub value-least : (k : ℕ) (w : Queue) → IsValue (processOf s) (s .jobCount) (weightAt s) k w (valueWith s k w)
   unfolding valueWith
-  value-right k w = value-is (processOf s) (s .jobCount) (weightAt s) (a .ranged .jobs-low) k w
+  value-least k w = value-is (processOf s) (s .jobCount) (weightAt s) (a .ranged .jobs-low) k w
 
   -- with slots left, in a bearable queue, it is what the recursion's choice costs
   value-worth : (k : ℕ) (w : Queue) → 1 ≤ k → T (bearable (M s) w) → valueWith s k w ≡ worth (choiceWith s (pred k) w)
@@ -52,9 +52,9 @@ module _ (s : Counted) (a : Accepted s) where
       (value-worth (suc k) w h b ∙ ap worth e))
 
   -- the byte of the choice is the plan byte: 255 where the value is none, else that speed
-  pub byte-right : (t : ℕ) → t < s .horizon → (w : Queue) → T (bearable (M s) w) →
+  pub byte-first : (t : ℕ) → t < s .horizon → (w : Queue) → T (bearable (M s) w) →
       IsPlanByte s t w (valueWith s (s .horizon - t) w) (byteOf (choiceWith s (pred (s .horizon - t)) w))
-  byte-right t h w b =
+  byte-first t h w b =
       subst (λ (r : Option ℕ). IsPlanByte s t w r (byteOf choice-is)) (sym (value-worth (s .horizon - t) w (omega arith) b)) (go choice-is refl)
     where
       choice-is : Choice
@@ -72,19 +72,19 @@ module _ (width : Width) (s : Counted) (a : Accepted s) {values₀ plan₀ value
   decided t i h k =
       record {
         r = valueWith s (s .horizon - t) (queueAt s i);
-        is-value = value-right s a (s .horizon - t) (queueAt s i);
+        is-value = value-least s a (s .horizon - t) (queueAt s i);
         in-values = p .values-right t i (omega arith) (omega arith) k;
         in-plan =
             subst (λ (byte : ℕ). IsPlanByte s t (queueAt s i) (valueWith s (s .horizon - t) (queueAt s i)) byte)
             (sym (p .plan-right t i (omega arith) h k))
-            (byte-right s a t h (queueAt s i) (listed-bearable (M s) (s .bound) i (omega (arith, N-is s)) .1));
+            (byte-first s a t h (queueAt s i) (listed-bearable (M s) (s .bound) i (omega (arith, N-is s)) .1));
       }
 
   -- at each place of the values stands the value of its slot and queue, the end row too
   pub valued : (t i : ℕ) → t ≤ s .horizon → i < N s → IsValueAt s t (queueAt s i) (readAt width values (placeAt s t i))
   valued t i h k =
       subst (λ (r : Option ℕ). IsValueAt s t (queueAt s i) r) (sym (p .values-right t i (omega arith) h k))
-      (value-right s a (s .horizon - t) (queueAt s i))
+      (value-least s a (s .horizon - t) (queueAt s i))
 
   -- the first value of all is the empty queue's at slot 0
   empty-value : IsValueAt s 0 (emptyQueue (s .bound)) (readAt width values (placeAt s 0 0))
@@ -110,11 +110,11 @@ pub read-value-in : (l : List ℕ) (i : ℕ) → readAt narrow.width l i ≡ val
 read-value-in l i = read-is l i
 
 -- such memory is filled as the model says
-pub planned-filled : (s : Counted) → Accepted s → {values₀ plan₀ values plan : List ℕ} →
+pub memory-filled : (s : Counted) → Accepted s → {values₀ plan₀ values plan : List ℕ} →
     PlannedFrom narrow.width s (s .horizon) values₀ plan₀ values plan → (answer : PlanAnswer) {place : ℕ} {r : Option ℕ} →
     place ≡ placeAt s 0 0 → r ≡ readAt narrow.width values place → answer .queues ≡ N s → answer .number ≡ number12 r → answer .least ≡ Option·getD r 0 →
     Filled valueIn s values₀ plan₀ values plan answer
-planned-filled s a {values₀ = values₀} {plan₀ = plan₀} {values = values} {plan = plan} p answer first e queues number least =
+memory-filled s a {values₀ = values₀} {plan₀ = plan₀} {values = values} {plan = plan} p answer first e queues number least =
     record {
       rows = λ t i h k.
           subst (λ (r : Option ℕ). Decided s t i r (getD plan (placeAt s t i) 0)) (read-value-in values (placeAt s t i))

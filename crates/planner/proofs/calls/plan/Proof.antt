@@ -11,7 +11,7 @@ use Rattle.model.specs.Plan.{planRefusal, valuesNeeded}
 use Rattle.model.specs.Refusal.{sheetRefusal}
 use Rattle.value.specs.Narrow.{width}
 use Rattle.planner.proofs.Refusals.{refused-plan, filled-plan, sizes-small, place-is, first-within}
-use Rattle.planner.proofs.Right.{planned-filled}
+use Rattle.planner.proofs.Right.{memory-filled}
 use Rattle.planner.proofs.calls.plan.Statement.{statement}
 use Rattle.planner.proofs.calls.plan.Tie as tie
 
@@ -98,7 +98,7 @@ returns-2 c =
     let first = place-is (sheet told) (sizes .sizes-of .ensures) 0 0 (c .before .before .place .ensures) in
     let answer = c .planned .ensures in
     filled-plan (sheet told) (passed told)
-    (planned-filled (sheet told) (accepted (sheet told) (sheet-right told)) (filled .fill .ensures) _ first (c .before .load .ensures)
+    (memory-filled (sheet told) (accepted (sheet told) (sheet-right told)) (filled .fill .ensures) _ first (c .before .load .ensures)
     (answer .1 ∙ sizes .sizes-of .ensures .queues-is) (answer .0) (answer .2))
 
 pub plan-spec : {M : Type 1} → statement M
