@@ -2,5 +2,5 @@ pub mod FirstPass
 pub mod Fits
 pub mod SecondPass
 pub mod Backward
-pub mod Refusals
+pub mod Outcomes
 pub mod Right

@@ -7,7 +7,7 @@ use lib.ListN.{length}
 use Rattle.model.proofs.Rooms.{row-accepted, row-none, row-past, row-part}
 use Rattle.model.specs.Counted.{counted}
 use Rattle.model.specs.Plan.{rowRefusal}
-use Rattle.planner.proofs.Refusals.{sizes-small, place-is, row-room}
+use Rattle.planner.proofs.Outcomes.{sizes-small, place-is, row-room}
 use Rattle.planner.proofs.calls.row.Statement.{statement}
 use Rattle.planner.proofs.calls.row.Tie as tie
 

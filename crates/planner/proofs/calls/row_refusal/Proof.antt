@@ -5,7 +5,7 @@ use borrow.Author.Needs.{needs}
 use Rattle.model.proofs.Rooms.{row-refused, row-short, row-fits}
 use Rattle.model.specs.Counted.{counted}
 use Rattle.model.specs.Refusal.{sheetRefusal}
-use Rattle.planner.proofs.Refusals.{sizes-small, place-is}
+use Rattle.planner.proofs.Outcomes.{sizes-small, place-is}
 use Rattle.planner.proofs.calls.row_refusal.Statement.{statement}
 use Rattle.planner.proofs.calls.row_refusal.Tie as tie
 

@@ -4,7 +4,7 @@ use borrow.Author.Needs.{needs}
 use Rattle.model.specs.Counted.{counted}
 use Rattle.value.specs.Narrow.{width}
 use Rattle.planner.proofs.Backward.{end-room, planned-none, planned-since}
-use Rattle.planner.proofs.Refusals.{sizes-small}
+use Rattle.planner.proofs.Outcomes.{sizes-small}
 use Rattle.planner.proofs.rows.fill.Statement.{statement}
 use Rattle.planner.proofs.rows.fill.Tie as tie
 

@@ -12,7 +12,7 @@ use Rattle.model.proofs.Refusal.{accepted, fields-right}
 use Rattle.value.specs.Narrow.{width, valueOf}
 use Rattle.planner.specs.Passes.{PlannedFrom}
 use Rattle.planner.proofs.Backward.{after-room, scale-next, scale-room, Stands, slot-stands, slot-in-plan, values-room, plan-room, next-stands, planned-more}
-use Rattle.planner.proofs.Refusals.{sizes-small}
+use Rattle.planner.proofs.Outcomes.{sizes-small}
 use Rattle.planner.proofs.rows.fill_slots.Statement.{statement}
 use Rattle.planner.proofs.rows.fill_slots.Tie as tie
 
