@@ -1,8 +1,8 @@
 -- Demand 2, its planning half, over the planner's actual contract: what a `plan` that is not refused leaves in lent memory is right by the
--- published problem. For each slot and each bearable queue the value's place says the least scaled energy over all good ways, none exactly where no way is good,
--- and the plan byte is the slowest speed that begins a least way.
+-- published problem. For each slot and each bearable queue the value's place says the least scaled energy over all good ways, none exactly
+-- where no way is good, and the plan byte is the slowest speed that begins a least way.
 use Prim.Native.Nat.{ℕ, zero, suc, _-_, _≤_, _<_}
-use mathlib.Core.Path.{_≡_, refl, sym, ap, _∙_, subst}
+use mathlib.Core.Path.{_≡_, refl, sym, ap, subst}
 use mathlib.Core.List.{List}
 use mathlib.Core.Logic.{⊎-elim, _↔_}
 use mathlib.Core.Option.{Option, none}
@@ -32,7 +32,7 @@ pub planned-by-room : (s : Counted) (values plan : ℕ) → sheetRefusal s ≡ 0
 planned-by-room s values plan e h k = sym (plan-fits s values plan e h k)
 
 module _ {sheet : Sheet} {values₀ plan₀ values bytes : List ℕ} {a : PlanAnswer} (call : Plans sheet values₀ plan₀ a values bytes) where
-  -- what is answered of a plan that was refused is absurd: it was not
+  -- where no refused plan could have answered this, the plan was not refused
   not-refused : (absurdity : (number : ℕ) → answered a ≡ record { number = suc number; queues = 0; least = 0 } → ⊥) →
       planRefusal (counted sheet) (length values₀) (length plan₀) ≡ 0
   not-refused absurdity = go (planRefusal (counted sheet) (length values₀) (length plan₀)) (plan-is call)
@@ -43,11 +43,7 @@ module _ {sheet : Sheet} {values₀ plan₀ values bytes : List ℕ} {a : PlanAn
 
   -- where the answer's number is 0
   pub planned-by-number : a .number ≡ 0 → planRefusal (counted sheet) (length values₀) (length plan₀) ≡ 0
-  planned-by-number e =
-      not-refused (λ number r. zero-ne-suc (sym e ∙ ap (λ (x : model-plan.PlanAnswer). x .number) r))
-    where
-      zero-ne-suc : {n : ℕ} → 0 ≡ suc n → ⊥
-      zero-ne-suc e = omega arith
+  planned-by-number e = not-refused (λ number r. omega (arith, ap (λ (x : model-plan.PlanAnswer). x .number) r))
 
   -- where it reports its queues, with 0 and with 12 alike
   pub planned-by-queues : 0 < a .queues → planRefusal (counted sheet) (length values₀) (length plan₀) ≡ 0

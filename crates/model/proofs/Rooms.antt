@@ -31,7 +31,7 @@ module _ (s : Counted) where
   unfolding rowRefusal
   row-short room e h = sym (then-on (sheetRefusal s) _ e ∙ check-false _ 11 (lt-leb (planNeeded s) room h))
 
-  -- and else nothing
+  -- and 0 otherwise
   pub row-fits : (room : ℕ) → sheetRefusal s ≡ 0 → planNeeded s ≤ room → 0 ≡ rowRefusal s room
   unfolding rowRefusal
   row-fits room e h = sym (then-on (sheetRefusal s) _ e ∙ check-true _ 11 (le-leb (planNeeded s) room h))
@@ -69,7 +69,7 @@ module _ (s : Counted) where
       (then-on (sheetRefusal s) _ e ∙
       check-false _ 11 (and-fails-right (leb (valuesNeeded s) valuesRoom) _ (lt-leb (planNeeded s) planRoom h)))
 
-  -- and else nothing
+  -- and 0 otherwise
   pub plan-fits : (valuesRoom planRoom : ℕ) → sheetRefusal s ≡ 0 → valuesNeeded s ≤ valuesRoom → planNeeded s ≤ planRoom →
       0 ≡ planRefusal s valuesRoom planRoom
   unfolding planRefusal

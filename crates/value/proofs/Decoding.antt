@@ -10,6 +10,7 @@ use native.Mathlib.Omega.{arith}
 use borrow.Author.Tests.{lt-ltb, le-ltb, ne-eqb, eqb-true, eqb-false}
 use lib.Dec.{T, eqb, ltb}
 use Rattle.process.specs.Recursion.{plus, times}
+use Rattle.process.proofs.Value.{plus-none}
 use Rattle.value.specs.Width.{Width, decode, Below, missing, lessThan}
 
 -- a value of which the test says so is none
@@ -48,13 +49,17 @@ module _ (W : Width) where
   -- the sum of two that are there, which stays below the limit
   module _ {first value : Option ℕ} (x by y : ℕ) (here : first ≡ some x) (there : value ≡ some y)
       (fits : Below (W .limit) (plus first (times by value))) where
-    pub sum-below : x + by * y < W .limit
-    sum-below = subst (λ (r : Option ℕ). Below (W .limit) r) (ap (λ (p : Option ℕ). plus p (times by value)) here ∙ ap (λ (p : Option ℕ). plus (some x) (times by p)) there) fits
+    -- it is there
+    sum-there : plus first (times by value) ≡ some (x + by * y)
+    sum-there = ap (λ (p : Option ℕ). plus p (times by value)) here ∙ ap (λ (p : Option ℕ). plus (some x) (times by p)) there
 
+    -- its number is below the limit
+    pub sum-below : x + by * y < W .limit
+    sum-below = subst (λ (r : Option ℕ). Below (W .limit) r) sum-there fits
+
+    -- and says it, since no number below the limit stands for none
     pub sum-is : W .limit ≤ W .noneCode → decode W (x + by * y) ≡ plus first (times by value)
-    sum-is h =
-        decode-below (x + by * y) (omega (arith, sum-below)) ∙
-        sym (ap (λ (p : Option ℕ). plus p (times by value)) here ∙ ap (λ (p : Option ℕ). plus (some x) (times by p)) there)
+    sum-is h = decode-below (x + by * y) (omega (arith, sum-below)) ∙ sym sum-there
 
 -- none is the sum where either is none
 
@@ -62,8 +67,4 @@ pub sum-first-none : (first value : Option ℕ) (by : ℕ) → first ≡ none �
 sum-first-none first value by e = e ∙ sym (ap (λ (p : Option ℕ). plus p (times by value)) e)
 
 pub sum-other-none : (first value : Option ℕ) (by : ℕ) → value ≡ none → value ≡ plus first (times by value)
-sum-other-none first value by e = e ∙ sym (ap (λ (p : Option ℕ). plus first (times by p)) e ∙ absorbed first)
-  where
-    absorbed : (first : Option ℕ) → plus first none ≡ none
-    absorbed none = refl
-    absorbed (some x) = refl
+sum-other-none first value by e = e ∙ sym (ap (λ (p : Option ℕ). plus first (times by p)) e ∙ plus-none first)
