@@ -1,15 +1,16 @@
 // The two calls: `plan` and `row`.
 use crate::rows::fill;
-use crate::sizes::place;
 use crate::sizes::sizes_of;
 use model::Sheet;
 use queues::table;
+use sheets::place;
+use sheets::row_refusal;
 use sheets::sheet_refusal;
 use value::Value;
 ghost use mathlib.Core.Path.{_≡_};
 ghost use mathlib.Core.Option.{Option·getD};
 ghost use Rattle.model.specs.Counted.{counted};
-ghost use Rattle.model.specs.Plan.{planRefusal, rowRefusal, number12};
+ghost use Rattle.model.specs.Plan.{planRefusal, number12};
 ghost use Rattle.queues.specs.Counts.{HoldsCounts};
 ghost use Rattle.value.specs.Narrow.{valueOf};
 ghost use Rattle.planner.specs.Calls.{IsPlan, IsRow};
@@ -48,22 +49,6 @@ fn planned(queues: u32, least: Value) -> PlanAnswer
         queues,
         least: value::number(least),
     }
-}
-
-// 4 to 10, then 11 where the lent plan is too short for T rows.
-fn row_refusal(counts: &[u32; 2352], sheet: Sheet, room: usize) -> u32
-    requires { ⌜ HoldsCounts (now counts) ⌝ }
-    ensures { λ r. ⌜ r ≡ rowRefusal (counted sheet) room ⌝ }
-{
-    let number = sheet_refusal(counts, sheet);
-    if number != 0 {
-        return number;
-    }
-    let sizes = sizes_of(counts, sheet);
-    if room < place(sizes.queues, sheet.horizon, 0) {
-        return 11;
-    }
-    0
 }
 
 // 4 to 10, then 11 where the lent values are too short for T+1 rows or the lent plan for T.

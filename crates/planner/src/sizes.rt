@@ -1,10 +1,9 @@
-// What the planner works out once for a sheet and for a slot, and where a slot's row and a queue's place in it are.
+// What the planner works out once for a sheet and for a slot.
 use model::Sheet;
 use queues::queue_count;
 use sheets::greatest_of;
 use value::Value;
 ghost use mathlib.Core.Path.{_≡_};
-ghost use Prim.Native.Nat.{_+_, _*_, _≤_};
 ghost use Rattle.model.specs.Counted.{counted};
 ghost use Rattle.model.specs.Refusal.{sheetRefusal};
 ghost use Rattle.queues.specs.Counts.{HoldsCounts};
@@ -43,12 +42,4 @@ pub fn sizes_of(counts: &[u32; 2352], sheet: Sheet) -> Sizes
         queues: queue_count(counts, largest, bound),
         after: queue_count(counts, largest, bound - 1),
     }
-}
-
-// The place of a slot and a queue, in the values and in the plan: each row has as many places as there are queues.
-pub fn place(queues: usize, slot: u32, queue: usize) -> usize
-    requires { ⌜ (queues ≤ 65535) × (slot ≤ 200) × (queue ≤ 65535) ⌝ }
-    ensures { λ r. ⌜ r ≡ slot * queues + queue ⌝ }
-{
-    slot as usize * queues + queue
 }

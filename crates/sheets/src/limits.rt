@@ -110,6 +110,15 @@ fn value_fits(factor: u32, limit: u64, sheet: Sheet) -> bool
     )
 }
 
+// N, the number of bearable queues.
+pub fn queues_of(counts: &[u32; 2352], sheet: Sheet) -> usize
+    requires { ⌜ HoldsCounts (now counts) × (fieldsRefusal (counted sheet) ≡ 0) ⌝ }
+    ensures { λ r. ⌜ r ≡ N (counted sheet) ⌝ }
+{
+    let greatest = greatest_of(sheet);
+    queue_count(counts, greatest.speed, sheet.bound as usize)
+}
+
 // 9 and 10.
 pub fn limits_refusal(counts: &[u32; 2352], sheet: Sheet) -> u32
     requires { ⌜ HoldsCounts (now counts) × (fieldsRefusal (counted sheet) ≡ 0) ⌝ }
@@ -118,8 +127,7 @@ pub fn limits_refusal(counts: &[u32; 2352], sheet: Sheet) -> u32
     if !value_fits(sheet.horizon, VALUE_LIMIT, sheet) {
         return 9;
     }
-    let greatest = greatest_of(sheet);
-    if 65535 < queue_count(counts, greatest.speed, sheet.bound as usize) {
+    if 65535 < queues_of(counts, sheet) {
         return 10;
     }
     0

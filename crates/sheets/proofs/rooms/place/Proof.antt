@@ -2,8 +2,8 @@
 use native.Mathlib.Nat.{mul-le-mul}
 use native.Mathlib.Omega.{arith}
 use borrow.Author.Needs.{needs}
-use Rattle.planner.proofs.sizes.place.Statement.{statement}
-use Rattle.planner.proofs.sizes.place.Tie as tie
+use Rattle.sheets.proofs.rooms.place.Statement.{statement}
+use Rattle.sheets.proofs.rooms.place.Tie as tie
 
 mul-result : tie.Need-mul-result
 mul-result c = omega (arith, mul-le-mul (c .pre .1) (c .pre .0))

@@ -1,0 +1,131 @@
+// The state and its three calls: `start`, `speed` and `advance`.
+use crate::look::is_entry;
+use crate::look::plan_byte;
+use crate::step::moved;
+use crate::tests::byte_right;
+use crate::tests::queue_right;
+use crate::tests::state_right;
+use model::Sheet;
+use queues::table;
+use sheets::row_refusal;
+use sheets::sheet_refusal;
+ghost use mathlib.Core.Path.{_≡_};
+ghost use Rattle.model.specs.Counted.{counted};
+ghost use Rattle.model.specs.Stepper.{zeroState, start, speed, advance};
+ghost use Rattle.stepper.specs.Calls.{stateOf, IsStepped, IsTold};
+
+// A queue in its six places, the number of the slot, and the energy spent.
+pub struct State {
+    pub queue: [u32; 6],
+    pub slot: u32,
+    pub energy: u32,
+}
+
+// What a start or an advance answers: its number, and the state to go on from.
+pub struct Stepped {
+    pub number: u32,
+    pub state: State,
+}
+
+// What a speed call answers: its number, and the speed.
+pub struct Told {
+    pub number: u32,
+    pub speed: u32,
+}
+
+impl State {
+    // Begins a run from the state's queue, at slot 0 and with no energy spent; the slot and energy that it had are not looked at. A
+    // refused start gives an all-zero state.
+    pub fn start(self, sheet: Sheet) -> Stepped
+        ensures { λ r. ⌜ IsStepped (start (counted sheet) (stateOf self)) (r .number) (r .state) ⌝ }
+    {
+        let counts = table();
+        let number = sheet_refusal(&counts, sheet);
+        if number != 0 {
+            return Stepped {
+                number,
+                state: zero_state(),
+            };
+        }
+        if !queue_right(sheet, self) {
+            return Stepped {
+                number: 13,
+                state: zero_state(),
+            };
+        }
+        let queue = self.queue;
+        Stepped {
+            number: 0,
+            state: State {
+                queue,
+                slot: 0,
+                energy: 0,
+            },
+        }
+    }
+
+    // The speed of the slot that begins: the plan byte at the state's slot and queue number. A refused speed is 0.
+    pub fn speed(self, sheet: Sheet, plan: &[u8]) -> Told
+        ensures { λ r. ⌜ IsTold (speed (counted sheet) (now (plan .entry)) (stateOf self)) (r .number) (r .speed) ⌝ }
+    {
+        let counts = table();
+        let number = row_refusal(&counts, sheet, plan.len());
+        if number != 0 {
+            return Told { number, speed: 0 };
+        }
+        if !state_right(sheet, self) {
+            return Told {
+                number: 13,
+                speed: 0,
+            };
+        }
+        if self.slot == sheet.horizon {
+            return Told {
+                number: 14,
+                speed: 0,
+            };
+        }
+        let byte = plan_byte(&counts, sheet, plan, self);
+        if !byte_right(sheet, self, byte) {
+            return Told {
+                number: 16,
+                speed: 0,
+            };
+        }
+        Told {
+            number: 0,
+            speed: byte,
+        }
+    }
+
+    // Runs the slot at the plan's speed and then takes the arrival. A refused advance hands back the state that it got.
+    pub fn advance(self, sheet: Sheet, plan: &[u8], size: u32, deadline: u32) -> Stepped
+        ensures { λ r. ⌜ IsStepped (advance (counted sheet) (now (plan .entry)) (stateOf self) size deadline) (r .number) (r .state) ⌝ }
+    {
+        let told = self.speed(sheet, plan);
+        if told.number != 0 {
+            return Stepped {
+                number: told.number,
+                state: self,
+            };
+        }
+        if !is_entry(sheet, size, deadline) {
+            return Stepped {
+                number: 15,
+                state: self,
+            };
+        }
+        moved(sheet, self, told.speed, size, deadline)
+    }
+}
+
+// The state with nothing in it.
+fn zero_state() -> State
+    ensures { λ r. ⌜ stateOf r ≡ zeroState ⌝ }
+{
+    State {
+        queue: [0; 6],
+        slot: 0,
+        energy: 0,
+    }
+}
