@@ -54,7 +54,7 @@ along-admissible s (suc k) w σ (i ∷ l) e b a =
     (b, on-sheet s (σ []) .0 (t .0), t .1, along-admissible s k (nextQueue s w (σ []) i) (later σ i) l (e .1) (t .2 i (e .0)) (a .1))
 
 -- the queue at which a good way begins is bearable
-good-bearable : (s : Counted) → 0 < s .jobCount → (k : ℕ) (w : Queue) (σ : Way) → Good (processOf s) (s .jobCount) k w σ →
+pub good-bearable : (s : Counted) → 0 < s .jobCount → (k : ℕ) (w : Queue) (σ : Way) → Good (processOf s) (s .jobCount) k w σ →
     T (bearable (M s) w)
 unfolding processOf
 good-bearable s h zero w σ g = g [] tt

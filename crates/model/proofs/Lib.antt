@@ -12,3 +12,5 @@ pub mod Leaves
 pub mod Cases
 pub mod Recursion
 pub mod Rooms
+pub mod Stepper
+pub mod Stepping

@@ -10,11 +10,12 @@ use native.Mathlib.Nat.{zero-add, le-of-suc-le-suc, le-refl, not-suc-le-zero, eq
 use native.Mathlib.Omega.{arith}
 use borrow.Author.Tests.{ltb-true, ltb-false}
 use lib.Dec.{T, leb, ltb, eqb, leb→le, le→leb, eqb→eq}
-use lib.ListN.{length, getD, length-append, length-map, List·getD-eq-default}
+use lib.ListN.{length, getD, replicate, length-append, length-map, length-replicate, List·getD-eq-default}
+use lib.Seq.{length-take-le, getD-take, take-take, take-append-seam}
 use Rattle.process.specs.Sums.{sum, same}
 use Rattle.process.proofs.Sums.{same-refl, same-true}
 use Rattle.model.specs.Tests.{listed}
-use Rattle.model.specs.Queue.{Queue, total, totals, emptyQueue, positions, queueIn, bearableAt, bearable, unusedAt, bearableIn, run, arrive, eachTotal, continuations, bearableQueues, queueCount, placeIn, numberOf, continuationCount}
+use Rattle.model.specs.Queue.{Queue, total, totals, emptyQueue, positions, queueIn, placesOf, bearableAt, bearable, unusedAt, bearableIn, run, arrive, oneSlot, eachTotal, continuations, bearableQueues, queueCount, placeIn, numberOf, continuationCount}
 use Rattle.model.proofs.Tests.{check-passes, and-left, and-right, and-both, everywhere-at, everywhere-all, length-listed, getD-listed}
 
 -- a queue by its totals
@@ -42,6 +43,10 @@ length-run w s = length-listed _ (length w)
 pub length-arrive : (w : Queue) (c d : ℕ) → length (arrive w c d) ≡ length w
 unfolding arrive
 length-arrive w c d = length-listed _ (length w)
+
+-- and so do both, one after the other
+pub length-slot : (w : Queue) (s c d : ℕ) → length (oneSlot w s c d) ≡ length w
+length-slot w s c d = length-arrive (run w s) c d ∙ length-run w s
 
 -- after a slot at speed s the total at u is what was at u + 1, or at the last position, less s
 pub total-run : (w : Queue) (s u : ℕ) → 1 ≤ u → u ≤ length w → total (run w s) u ≡ total w (min (suc u) (length w)) - s
@@ -93,6 +98,45 @@ held-zero M D places t i h l =
     eqb→eq (getD places i 0) 0
     (subst (λ (k : ℕ). T (eqb (getD places k 0) 0)) same
     (everywhere-at (unusedAt D places) (positions - D) zeros (i - D) (omega arith)))
+
+-- a queue and the six places that it stands in
+
+-- the queue in the first D places has D totals
+pub length-in : (D : ℕ) (places : List ℕ) → D ≤ length places → length (queueIn D places) ≡ D
+length-in D places h = length-take-le D places h
+
+-- zeros after a list change no total
+pub getD-zeros : (l : List ℕ) (n i : ℕ) → getD (l ++ replicate n 0) i 0 ≡ getD l i 0
+getD-zeros [] zero i = refl
+getD-zeros [] (suc n) zero = refl
+getD-zeros [] (suc n) (suc i) = getD-zeros [] n i
+getD-zeros (x ∷ l) n zero = refl
+getD-zeros (x ∷ l) n (suc i) = getD-zeros l n i
+
+-- there are six
+pub length-places : (w : Queue) → length (placesOf w) ≡ 6
+length-places w = length-take-le 6 (w ++ replicate 6 0) (omega (arith, length-append w (replicate 6 0), length-replicate {A = ℕ} 6 0))
+
+-- in them stand the totals
+pub total-places : (w : Queue) (u : ℕ) → u ≤ 6 → total (placesOf w) u ≡ total w u
+total-places w zero h = refl
+total-places w (suc i) h = getD-take 6 (w ++ replicate 6 0) i 0 h ∙ getD-zeros w 6 i
+
+-- the queue in the places of a queue of at most six positions is that queue
+pub in-places : (w : Queue) → length w ≤ 6 → queueIn (length w) (placesOf w) ≡ w
+in-places w h = take-take (length w) 6 (w ++ replicate 6 0) h ∙ take-append-seam w (replicate 6 0)
+
+-- the places of a bearable queue of at most six positions hold it: it stands in the first ones, and the others are zero
+pub places-hold : (M : ℕ) (w : Queue) → length w ≤ 6 → T (bearable M w) → T (bearableIn M (length w) (placesOf w))
+unfolding bearableIn
+places-hold M w h t =
+    and-both (bearable M (queueIn (length w) (placesOf w))) _ (subst (λ (v : Queue). T (bearable M v)) (sym (in-places w h)) t)
+    (everywhere-all (unusedAt (length w) (placesOf w)) (positions - length w) (λ i l. unused i (omega arith)))
+  where
+    unused : (i : ℕ) → length w + i < 6 → T (unusedAt (length w) (placesOf w) i)
+    unused i l =
+        let zero-there = total-places w (suc (length w + i)) l ∙ total-past w (suc (length w + i)) (omega arith) in
+        subst (λ (n : ℕ). T (eqb n 0)) (sym zero-there) tt
 
 -- how many there are
 

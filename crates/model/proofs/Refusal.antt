@@ -149,6 +149,11 @@ pub N-low : (s : Counted) → Ranged s → 2 ≤ N s
 unfolding N
 N-low s r = at-least-two (M s) (s .bound) (M-low s r) (r .bound-low)
 
+-- the greatest energy is 65,535 at most
+pub greatest-energy-high : (s : Counted) → Ranged s → greatestEnergy s ≤ 65535
+unfolding greatestEnergy
+greatest-energy-high s r = greatest-upto (energyAt s) (s .speedCount) 65535 (r .energy-high)
+
 -- G is the greatest energy where that is not 0, else 1
 
 pub G-none : (s : Counted) → greatestEnergy s ≡ 0 → G s ≡ 1
@@ -177,9 +182,8 @@ G-covers s = G-bounds s .1
 
 -- G is 65,535 at most
 pub G-high : (s : Counted) → Ranged s → G s ≤ 65535
-unfolding G greatestEnergy
-G-high s r =
-    upto (eqb (greatestEnergy s) 0) (greatestEnergy s) (greatest-upto (energyAt s) (s .speedCount) 65535 (r .energy-high))
+unfolding G
+G-high s r = upto (eqb (greatestEnergy s) 0) (greatestEnergy s) (greatest-energy-high s r)
   where
     upto : (b : Bool) (n : ℕ) → n ≤ 65535 → cond b 1 n ≤ 65535
     upto true n h = omega arith

@@ -4,6 +4,7 @@ use Prim.Native.Nat.{ℕ, _+_, _-_, _≤_, _<_}
 use mathlib.Core.Path.{_≡_, sym, ap, _∙_}
 use mathlib.Core.Bool.{Bool, false, cond, _&&_}
 use mathlib.Core.List.{List, []}
+use native.Mathlib.Nat.{suc-mul, mul-le-mul-right}
 use native.Mathlib.Omega.{arith}
 use borrow.Author.Tests.{le-leb, lt-leb, lt-ltb, le-ltb, eq-eqb, ne-eqb}
 use lib.Dec.{leb, ltb, eqb, leb→le}
@@ -43,6 +44,10 @@ module _ (s : Counted) where
     then-left (sheetRefusal s) _ e,
     leb→le (planNeeded s) room (check-zero (leb (planNeeded s) room) 10 (then-right (sheetRefusal s) _ e)),
   )
+
+  -- every place of the sheet's slots and queues is then within the plan
+  pub place-within : (room t i : ℕ) → rowRefusal s room ≡ 0 → t < s .horizon → i < N s → placeAt s t i < room
+  place-within room t i e h l = omega (arith, suc-mul t (N s), mul-le-mul-right (N s) h, row-accepted room e .1)
 
   -- the planner
 

@@ -3,11 +3,11 @@ use Prim.Native.Nat.{ℕ, zero, suc, max, _+_, _≤_, _<_}
 use mathlib.Core.Path.{_≡_, refl, sym, ap, subst}
 use mathlib.Core.Bool.{Bool, true, false, cond, _&&_, _||_}
 use mathlib.Core.Logic.{⊎-elim, _⊎_, inl, inr}
-use native.Mathlib.Nat.{le-refl, le-trans, le-max-left, le-max-right, max-le, not-suc-le-zero, eq-or-lt-of-le, le-of-suc-le-suc, suc-ne-zero, lt-irrefl, not-le-of-lt}
+use native.Mathlib.Nat.{le-refl, le-trans, le-max-left, le-max-right, max-le, not-suc-le-zero, eq-or-lt-of-le, le-of-suc-le-suc, suc-ne-zero, lt-irrefl, not-le-of-lt, lt-of-le-of-lt}
 use native.Mathlib.Numerals.{add-one}
 use native.Mathlib.Omega.{arith}
-use borrow.Author.Tests.{ltb-true, ltb-false}
-use lib.Dec.{T, ltb}
+use borrow.Author.Tests.{ltb-true, ltb-false, le-ltb}
+use lib.Dec.{T, ltb, ltb→lt, lt→ltb}
 use lib.ListN.{length, getD}
 use Rattle.model.specs.Tests.{check, _then_, inOrder, everywhere, anywhere, firstPlace, greatest, listed}
 
@@ -79,6 +79,15 @@ check-false passes number e = ap (λ (b : Bool). check b number) e
 
 pub then-on : (a later : ℕ) → a ≡ 0 → a then later ≡ later
 then-on a later e = ap (λ (n : ℕ). n then later) e
+
+-- tests in order may be taken together from the first on
+pub then-then : (a b later : ℕ) → (a then b) then later ≡ a then b then later
+then-then zero b later = refl
+then-then (suc a) b later = refl
+
+-- a test that holds leaves it to the later ones
+pub then-holds : (passes : Bool) (number later : ℕ) → T passes → check passes number then later ≡ later
+then-holds passes number later t = then-on (check passes number) later (check-passes passes number t)
 
 pub then-stops : (a later : ℕ) → (a ≡ 0 → ⊥) → a then later ≡ a
 then-stops zero later h = absurd (h refl)
@@ -177,6 +186,16 @@ anywhere-one test (suc n) i h t =
     ⊎-elim (λ e. or-right (anywhere test n) (test n) (subst (λ (j : ℕ). T (test j)) e t))
     (λ l. or-left (anywhere test n) (test n) (anywhere-one test n i l t)) (below-suc h)
 
+-- a test that holds nowhere below i, and not at i either, holds nowhere below i + 1
+pub anywhere-more : (test : ℕ → Bool) (i : ℕ) → anywhere test i ≡ false → test i ≡ false → anywhere test (i + 1) ≡ false
+unfolding anywhere
+anywhere-more test i below here = rw (add-one, below) here
+
+-- a test that holds at one place holds somewhere
+pub anywhere-found : (test : ℕ → Bool) (n i : ℕ) → i < n → test i ≡ true → anywhere test n ≡ true
+anywhere-found test n i h e =
+    same-test (anywhere test n) true (λ t. tt) (λ t. anywhere-one test n i h (subst T (sym e) tt))
+
 -- the greatest of f 0 to f (n - 1)
 
 pub greatest-at : (f : ℕ → ℕ) (n i : ℕ) → i < n → f i ≤ greatest f n
@@ -240,3 +259,25 @@ first-upto test (suc n) i h t = go (firstPlace test n) (first-upto test n i) (lt
         let small : p ≤ i = ih l t in
         let large : n ≤ p = ltb-false p n e in
         absurd (not-le-of-lt l (le-trans large small))
+
+-- what a search over the places knows: nothing found so far and nothing here either
+pub first-more : (test : ℕ → Bool) (j : ℕ) → firstPlace test j ≡ j → test j ≡ false → firstPlace test (j + 1) ≡ j + 1
+unfolding firstPlace
+first-more test j below here = rw (add-one, below, le-ltb j j (le-refl j), here)
+
+-- nothing found so far, and found here: this is the first place of all
+pub first-found : (test : ℕ → Bool) (j n : ℕ) → firstPlace test j ≡ j → test j ≡ true → j < n → firstPlace test n ≡ j
+first-found test j n below here h = ⊎-elim (λ q. q) (λ l. absurd (earlier l)) (eq-or-lt-of-le upto)
+  where
+    upto : firstPlace test n ≤ j
+    upto = first-upto test n j h (subst T (sym here) tt)
+
+    earlier : firstPlace test n < j → ⊥
+    earlier l = omega (arith, below, first-upto test j (firstPlace test n) l (first-holds test n (omega arith)))
+
+-- a test holds somewhere exactly where the first such place is below n
+pub anywhere-first : (test : ℕ → Bool) (n : ℕ) → anywhere test n ≡ ltb (firstPlace test n) n
+anywhere-first test n =
+    same-test (anywhere test n) (ltb (firstPlace test n) n)
+    (λ t. let f = anywhere-at test n t in lt→ltb (firstPlace test n) n (lt-of-le-of-lt (first-upto test n (f .0) (f .1) (f .2)) (f .1)))
+    (λ t. let l = ltb→lt (firstPlace test n) n t in anywhere-one test n (firstPlace test n) l (first-holds test n l))

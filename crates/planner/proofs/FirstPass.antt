@@ -19,12 +19,12 @@ use Rattle.model.specs.Queue.{Queue, total, queueIn, placesOf, bearable, bearab
 use Rattle.model.specs.Refusal.{N}
 use Rattle.model.specs.declared.Job.{Job}
 use Rattle.model.specs.declared.Sheet.{Sheet}
-use Rattle.model.proofs.Queues.{length-arrive, listed-bearable, number-below, number-place}
+use Rattle.model.proofs.Queues.{length-arrive, listed-bearable, number-below, number-place, length-in, total-places, in-places, length-places}
 use Rattle.model.proofs.Recursion as recursion
-use Rattle.model.proofs.Refusal.{Ranged, Accepted, accepted, M-low, M-high, N-is}
+use Rattle.model.proofs.Refusal.{Ranged, Accepted, accepted, N-is}
 use Rattle.queues.specs.Order.{Ranges, Numbered}
+use Rattle.queues.proofs.Bounds.{ranges-of}
 use Rattle.queues.specs.Slot.{Small, kept}
-use Rattle.queues.proofs.Places.{length-in, total-places, in-places, length-places}
 use Rattle.queues.proofs.RoundTrip.{queue-in}
 use Rattle.queues.proofs.Slots.{length-kept, bearable-kept, bearable-small}
 use Rattle.sheets.proofs.Answers.{passed-by}
@@ -100,17 +100,6 @@ value-found width s k from l row w long =
 pub numbered-by : {largest D : ℕ} {places : List ℕ} {answer : Bool} → Ranges largest D → answer ≡ bearable largest (queueIn D places) →
     not answer ≡ false → Numbered largest D places
 numbered-by ranges e h = record { ranges = ranges; is-bearable = subst T (sym (passed-by e h)) tt }
-
--- the ranges of an accepted sheet
-
--- its largest speed, and its deadline bound or fewer positions, are in range
-pub ranges-of : {s : Counted} {largest D : ℕ} → Ranged s → largest ≡ M s → D ≤ s .bound → Ranges largest D
-ranges-of {s = s} r e h =
-    record {
-      speed-low = omega (arith, M-low s r);
-      speed-high = omega (arith, M-high s r);
-      bound-high = omega (arith, r .bound-high);
-    }
 
 -- one position fewer, as the code and as the specification write it
 pub one-fewer : (D : ℕ) → D - 1 ≡ pred D

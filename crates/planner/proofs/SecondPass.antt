@@ -24,14 +24,14 @@ use Rattle.model.specs.Refusal.{valueLimit, N}
 use Rattle.model.specs.declared.Speed.{Speed}
 use Rattle.model.proofs.Counted.{length-speeds, energy-of-place, on-sheet, speed-upto}
 use Rattle.model.proofs.Longer.{run-never-falls}
-use Rattle.model.proofs.Queues.{length-run, bearable-at, listed-bearable}
+use Rattle.model.proofs.Queues.{length-run, bearable-at, listed-bearable, length-in}
 use Rattle.model.proofs.Recursion.{choice-all, best-speed, priced-speed}
 use Rattle.model.proofs.Refusal.{Ranged, Accepted, M-high, N-is}
 use Rattle.model.proofs.Tests.{same-test}
 use Rattle.queues.specs.Counts.{HoldsCounts}
 use Rattle.queues.specs.Order.{Ranges}
 use Rattle.queues.specs.Slot.{kept}
-use Rattle.queues.proofs.Places.{length-in, total-in}
+use Rattle.queues.proofs.Places.{total-in}
 use Rattle.queues.proofs.RoundTrip.{queue-in, queue-numbered}
 use Rattle.queues.proofs.Slots.{run-kept, run-bearable, arrive-not-bearable}
 use Rattle.value.specs.Fills.{Fills, numberAt}

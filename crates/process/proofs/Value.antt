@@ -351,3 +351,20 @@ module _ {S : Type 0} (P : Process S) (n : ℕ) (w : ℕ → ℕ) where
     where
       later-more : (i m : ℕ) → m < length (P .actions) → ¬ (m < i) → getD (P .actions) i 0 ≤ getD (P .actions) m 0
       later-more i m b d = ⊎-elim (λ q. rw q (le-refl _)) (λ q. le-of-lt (rising i m q b)) (eq-or-lt-of-le (omega arith))
+
+  -- where a way is good there is a value
+  pub good-value : 0 < n → (k : ℕ) (x : S) (σ : Way) → Good P n k x σ → (v : ℕ) × IsValue P n w k x (some v)
+  good-value h k x σ g = go (value P n w k x) (value-is h k x)
+    where
+      go : (r : Option ℕ) → IsValue P n w k x r → (v : ℕ) × IsValue P n w k x (some v)
+      go none never-good = absurd (never-good σ g)
+      go (some v) is = (v, is)
+
+  -- the first action of a least good way is one of the process's and allowed, and after it and each event there is a value again
+  pub first-step : 0 < n → (k : ℕ) (x : S) (a : ℕ) → IsFirst P n w (suc k) x a →
+      Among (P .actions) a × T (P .allowed x a) × ((i : ℕ) → i < n → (v : ℕ) × IsValue P n w k (P .next x a i) (some v))
+  first-step h k x a f =
+      let t = good-step h k x (f .way) (f .least .good) in
+      subst
+      (λ (b : ℕ). Among (P .actions) b × T (P .allowed x b) × ((i : ℕ) → i < n → (v : ℕ) × IsValue P n w k (P .next x b i) (some v)))
+      (f .begins) (t .1, t .2, λ i l. good-value h k _ _ (t .3 i l))

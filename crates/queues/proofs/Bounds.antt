@@ -6,8 +6,11 @@ use native.Mathlib.Omega.{arith}
 use Rattle.process.specs.Sums.{sum}
 use Rattle.process.proofs.Sums.{sum-upto}
 use Rattle.model.specs.Queue.{queueCount, continuationCount}
+use Rattle.model.specs.Counted.{Counted, M}
 use Rattle.model.proofs.Queues.{queue-count}
+use Rattle.model.proofs.Refusal.{Ranged, M-low, M-high}
 use Rattle.queues.specs.Counts.{InTable}
+use Rattle.queues.specs.Order.{Ranges}
 
 -- with a position more to fill the slacks go up to M more
 pub wider : (M r : ℕ) → r < 6 → (6 - r) * M ≡ (6 - suc r) * M + M
@@ -41,3 +44,12 @@ counts-small M r g n needed j h = sum-upto j (49 ^ 5) (λ i l. count-small M r (
 pub queues-few : (M D : ℕ) → M ≤ 8 → D ≤ 6 → queueCount M D ≤ 49 ^ 6
 queues-few M D high bound =
     le-trans (omega (arith, queue-count M D, count-few M D 0 high bound zero-le)) (pow-le-pow-right {n = 49} (zero-lt-suc 48) bound)
+
+-- the largest speed of a sheet that keeps its ranges, and its deadline bound or fewer positions, are in range
+pub ranges-of : {s : Counted} {largest D : ℕ} → Ranged s → largest ≡ M s → D ≤ s .bound → Ranges largest D
+ranges-of {s = s} r e h =
+    record {
+      speed-low = omega (arith, M-low s r);
+      speed-high = omega (arith, M-high s r);
+      bound-high = omega (arith, r .bound-high);
+    }

@@ -13,7 +13,7 @@ use lib.Seq.{length-take-le, getD-take, take-take, take-append-seam, ext-getD}
 use Rattle.model.specs.Tests.{everywhere}
 use Rattle.model.specs.Queue.{Queue, total, queueIn, placesOf, bearableAt, bearable, unusedAt, unusedZero, bearableIn, run, arrive}
 use Rattle.model.proofs.Tests.{everywhere-fails, everywhere-more, everywhere-same}
-use Rattle.model.proofs.Queues.{total-past, length-run, length-arrive, total-run, total-arrive}
+use Rattle.model.proofs.Queues.{length-in, length-places, total-places, total-past, length-run, length-arrive, total-run, total-arrive}
 use Rattle.queues.specs.Slot.{Small}
 
 -- w(u) stands in the place before u
@@ -22,10 +22,6 @@ total-at places zero h = absurd (h refl)
 total-at places (suc i) h = let same : i ≡ suc i - 1 = omega arith in ap (λ k. getD places k 0) same
 
 -- the queue in the first D places
-
--- it has D totals
-pub length-in : (D : ℕ) (places : List ℕ) → D ≤ length places → length (queueIn D places) ≡ D
-length-in D places h = length-take-le D places h
 
 -- however few places there are, it has no more than D totals
 pub length-in-upto : (D : ℕ) (places : List ℕ) → length (queueIn D places) ≤ D
@@ -46,23 +42,6 @@ small-in D places place h small = omega (arith, total-in D places (suc place) h,
 
 -- the places of a queue
 
--- zeros after a list change no total
-pub getD-zeros : (l : List ℕ) (n i : ℕ) → getD (l ++ replicate n 0) i 0 ≡ getD l i 0
-getD-zeros [] zero i = refl
-getD-zeros [] (suc n) zero = refl
-getD-zeros [] (suc n) (suc i) = getD-zeros [] n i
-getD-zeros (x ∷ l) n zero = refl
-getD-zeros (x ∷ l) n (suc i) = getD-zeros l n i
-
--- there are six
-pub length-places : (w : Queue) → length (placesOf w) ≡ 6
-length-places w = length-take-le 6 (w ++ replicate 6 0) (omega (arith, length-append w (replicate 6 0), length-replicate {A = ℕ} 6 0))
-
--- in them stand the totals
-pub total-places : (w : Queue) (u : ℕ) → u ≤ 6 → total (placesOf w) u ≡ total w u
-total-places w zero h = refl
-total-places w (suc i) h = getD-take 6 (w ++ replicate 6 0) i 0 h ∙ getD-zeros w 6 i
-
 -- they are the first six totals, one after the other
 pub six-places : (w : Queue) → placesOf w ≡ total w 1 ∷ total w 2 ∷ total w 3 ∷ total w 4 ∷ total w 5 ∷ total w 6 ∷ []
 six-places [] = refl
@@ -77,10 +56,6 @@ six-places (a ∷ b ∷ c ∷ d ∷ e ∷ f ∷ w) = refl
 pub places-by : (w : Queue) {a b c d e f : ℕ} → a ≡ total w 1 → b ≡ total w 2 → c ≡ total w 3 → d ≡ total w 4 → e ≡ total w 5 →
     f ≡ total w 6 → a ∷ b ∷ c ∷ d ∷ e ∷ f ∷ [] ≡ placesOf w
 places-by w p q r s t u = cc (six-places w)
-
--- the queue in the places of a queue of at most six positions is that queue
-pub in-places : (w : Queue) → length w ≤ 6 → queueIn (length w) (placesOf w) ≡ w
-in-places w h = take-take (length w) 6 (w ++ replicate 6 0) h ∙ take-append-seam w (replicate 6 0)
 
 -- the places of the queue in the first D of six places are these places, where the ones past D are zero
 pub places-in : (D : ℕ) (places : List ℕ) → length places ≡ 6 → ((i : ℕ) → D ≤ i → i < 6 → getD places i 0 ≡ 0) →

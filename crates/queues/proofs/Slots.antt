@@ -13,10 +13,10 @@ use lib.Dec.{T, leb, ltb}
 use lib.ListN.{length, length-append, List·getD-append}
 use lib.Seq.{take-suc, take-all, getD-append-seam}
 use Rattle.model.specs.Queue.{Queue, total, NeverFalls, queueIn, bearable, run, arrive}
-use Rattle.model.proofs.Queues.{total-past, length-run, length-arrive, total-run, total-arrive, bearable-at, bearable-all, bearable-upto}
+use Rattle.model.proofs.Queues.{total-past, length-run, length-arrive, total-run, total-arrive, bearable-at, bearable-all, bearable-upto, length-in}
 use Rattle.model.proofs.Tests.{same-test}
 use Rattle.queues.specs.Slot.{Small, kept}
-use Rattle.queues.proofs.Places.{length-in, total-in}
+use Rattle.queues.proofs.Places.{total-in}
 
 -- a queue whose last total stands once more (specs/Slot.antt)
 

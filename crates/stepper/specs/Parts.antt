@@ -1,11 +1,16 @@
 -- What the stepper's functions promise each other.
 use Prim.Native.Nat.{ℕ}
 use mathlib.Core.Bool.{cond}
+use mathlib.Core.List.{List}
 use lib.Dec.{leb, eqb}
 use Rattle.model.specs.Counted.{Counted, speedAt, M}
 use Rattle.model.specs.Queue.{bearable}
 use Rattle.model.specs.Stepper.{State, Stepped, queueOf, moved}
 use Rattle.model.specs.Tests.{check, _then_, firstPlace}
+
+-- a state with this queue at this slot: a plan byte does not depend on the energy spent
+abbrev pub stateAt : ℕ → List ℕ → State
+stateAt slot queue = record { queue = queue; slot = slot; energy = 0 }
 
 -- the first place on the sheet where this speed stands; the count of speeds where it stands nowhere
 abbrev pub placeOfSpeed : Counted → ℕ → ℕ

@@ -1,5 +1,4 @@
 // What is looked up: the plan byte of a state, a speed on the sheet, and an arrival on the sheet.
-use crate::state::State;
 use model::Job;
 use model::Sheet;
 use queues::number;
@@ -16,20 +15,18 @@ ghost use Rattle.model.specs.Plan.{rowRefusal};
 ghost use Rattle.model.specs.Refusal.{fieldsRefusal};
 ghost use Rattle.model.specs.Stepper.{queueRight, planByte, isEntry};
 ghost use Rattle.queues.specs.Counts.{HoldsCounts};
-ghost use Rattle.stepper.specs.Calls.{stateOf};
-ghost use Rattle.stepper.specs.Parts.{placeOfSpeed};
+ghost use Rattle.stepper.specs.Parts.{stateAt, placeOfSpeed};
 
-// The plan byte at the state's slot and queue number.
-pub fn plan_byte(counts: &[u32; 2352], sheet: Sheet, plan: &[u8], state: State) -> u32
-    requires { ⌜ HoldsCounts (now counts) × (rowRefusal (counted sheet) (length (now plan)) ≡ 0) ×
-        T (queueRight (counted sheet) (stateOf state)) × (state .slot < sheet .horizon) ⌝ }
-    ensures { λ r. ⌜ r ≡ planByte (counted sheet) (now (plan .entry)) (stateOf state) ⌝ }
+// The plan byte at a slot and the number of a queue.
+pub fn plan_byte(counts: &[u32; 2352], sheet: Sheet, plan: &[u8], slot: u32, queue: [u32; 6]) -> u32
+    requires { ⌜ HoldsCounts (now counts) × (rowRefusal (counted sheet) (length (now plan)) ≡ 0) × (slot < sheet .horizon) ×
+        T (queueRight (counted sheet) (stateAt slot queue)) ⌝ }
+    ensures { λ r. ⌜ r ≡ planByte (counted sheet) (now (plan .entry)) (stateAt slot queue) ⌝ }
 {
     let greatest = greatest_of(sheet);
     let queues = queues_of(counts, sheet);
-    let queue = state.queue;
     let here = number(counts, greatest.speed, sheet.bound as usize, queue);
-    plan[place(queues, state.slot, here)] as u32
+    plan[place(queues, slot, here)] as u32
 }
 
 // The place of a speed on the sheet; the count of speeds where it is not there.

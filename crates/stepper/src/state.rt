@@ -85,7 +85,8 @@ impl State {
                 speed: 0,
             };
         }
-        let byte = plan_byte(&counts, sheet, plan, self);
+        let queue = self.queue;
+        let byte = plan_byte(&counts, sheet, plan, self.slot, queue);
         if !byte_right(sheet, self, byte) {
             return Told {
                 number: 16,

@@ -10,10 +10,10 @@ use sheets::greatest_of;
 ghost use mathlib.Core.Path.{_≡_};
 ghost use Prim.Native.Nat.{_≤_};
 ghost use lib.Dec.{T};
-ghost use Rattle.model.specs.Counted.{counted, onSheet, energyOf};
-ghost use Rattle.model.specs.Queue.{placesOf, oneSlot};
+ghost use Rattle.model.specs.Counted.{counted, onSheet, energyOf, M};
+ghost use Rattle.model.specs.Queue.{queueIn, placesOf, bearableIn, oneSlot};
 ghost use Rattle.model.specs.Refusal.{fieldsRefusal};
-ghost use Rattle.model.specs.Stepper.{queueOf, queueRight, stateRight};
+ghost use Rattle.model.specs.Stepper.{stateRight};
 ghost use Rattle.stepper.specs.Calls.{stateOf, IsStepped};
 ghost use Rattle.stepper.specs.Parts.{movedOrRefused};
 
@@ -31,12 +31,11 @@ fn energy_of(sheet: Sheet, speed: u32) -> u32
 }
 
 // The queue after a slot at this speed and an arrival.
-fn next_queue(sheet: Sheet, state: State, speed: u32, size: u32, deadline: u32) -> [u32; 6]
-    requires { ⌜ (fieldsRefusal (counted sheet) ≡ 0) × T (queueRight (counted sheet) (stateOf state)) × (size ≤ 255) ⌝ }
-    ensures { λ r. ⌜ r ≡ placesOf (oneSlot (queueOf (counted sheet) (stateOf state)) speed size deadline) ⌝ }
+fn next_queue(sheet: Sheet, queue: [u32; 6], speed: u32, size: u32, deadline: u32) -> [u32; 6]
+    requires { ⌜ (fieldsRefusal (counted sheet) ≡ 0) × T (bearableIn (M (counted sheet)) (sheet .bound) queue) × (size ≤ 255) ⌝ }
+    ensures { λ r. ⌜ r ≡ placesOf (oneSlot (queueIn (sheet .bound) queue) speed size deadline) ⌝ }
 {
     let bound = sheet.bound as usize;
-    let queue = state.queue;
     let left = after(bound, queue, speed);
     arrive(bound, left, size, deadline)
 }
@@ -47,7 +46,8 @@ pub fn moved(sheet: Sheet, state: State, speed: u32, size: u32, deadline: u32) -
         T (onSheet (counted sheet) speed) × (size ≤ 255) ⌝ }
     ensures { λ r. ⌜ IsStepped (movedOrRefused (counted sheet) (stateOf state) speed size deadline) (r .number) (r .state) ⌝ }
 {
-    let queue = next_queue(sheet, state, speed, size, deadline);
+    let waiting = state.queue;
+    let queue = next_queue(sheet, waiting, speed, size, deadline);
     let greatest = greatest_of(sheet);
     if !finishable(greatest.speed, sheet.bound as usize, queue) {
         return Stepped { number: 17, state };

@@ -6,7 +6,7 @@ use native.Mathlib.Omega.{arith}
 use Rattle.model.specs.Counted.{counted, zeroSpeed}
 use Rattle.model.specs.Queue.{queueIn}
 use Rattle.model.specs.declared.Speed.{Speed}
-use Rattle.queues.proofs.Places.{length-in}
+use Rattle.model.proofs.Queues.{length-in}
 use Rattle.sheets.proofs.Places.{speed-counts}
 use Rattle.value.specs.Narrow.{width, valueOf}
 use Rattle.planner.specs.Passes.{IsChoice}

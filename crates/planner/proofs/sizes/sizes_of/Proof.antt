@@ -6,7 +6,8 @@ use borrow.Author.Needs.{needs}
 use Rattle.model.specs.Counted.{counted, M}
 use Rattle.model.specs.Queue.{queueCount}
 use Rattle.model.proofs.Refusal.{fields-right, accepted, N-is}
-use Rattle.planner.proofs.FirstPass.{ranges-of, one-fewer}
+use Rattle.queues.proofs.Bounds.{ranges-of}
+use Rattle.planner.proofs.FirstPass.{one-fewer}
 use Rattle.planner.proofs.sizes.sizes_of.Statement.{statement}
 use Rattle.planner.proofs.sizes.sizes_of.Tie as tie
 

@@ -1,10 +1,12 @@
 -- `queues_of` meets its contract: N is how many queues there are for the largest speed and the deadline bound.
 use Prim.Native.Nat.{ℕ}
 use mathlib.Core.Path.{sym, ap, _∙_}
+use native.Mathlib.Omega.{arith}
 use borrow.Author.Needs.{needs}
-use Rattle.model.proofs.Refusal.{ranged, M-low, M-high, N-is}
+use Rattle.model.proofs.Refusal.{ranged, N-is}
 use Rattle.model.specs.Counted.{counted}
 use Rattle.model.specs.Queue.{queueCount}
+use Rattle.queues.proofs.Bounds.{ranges-of}
 use Rattle.sheets.proofs.limits.queues_of.Statement.{statement}
 use Rattle.sheets.proofs.limits.queues_of.Tie as tie
 
@@ -17,15 +19,7 @@ cast-queue-count c = search needs
 queue-count-requires : tie.Need-queue-count-requires
 queue-count-requires c κs =
     let start = c .before .before in
-    let right = ranged (counted (start .args .sheet)) (start .pre .1) in
-    let most = c .before .greatest-of .ensures .0 in (
-      start .pre .0,
-      record {
-        speed-low = rw most (M-low (counted (start .args .sheet)) right);
-        speed-high = rw most (M-high (counted (start .args .sheet)) right);
-        bound-high = right .bound-high;
-      },
-    )
+    (start .pre .0, ranges-of (ranged (counted (start .args .sheet)) (start .pre .1)) (c .before .greatest-of .ensures .0) (omega arith))
 
 returns : tie.Need-returns
 returns c =

@@ -1,54 +1,64 @@
+-- `is_entry` meets its contract. The loop's invariant: no entry passed has this size and deadline.
+use Prim.Native.Nat.{_-_, _≤_}
+use mathlib.Core.Bool.{false}
+use mathlib.Core.Path.{_≡_, refl}
+use native.Mathlib.Omega.{arith}
+use Rattle.model.proofs.Refusal.{ranged}
+use Rattle.model.specs.Counted.{counted}
+use Rattle.model.specs.Tests.{anywhere}
+use Rattle.stepper.proofs.Looking.{isArrival, entry-not-here, entry-found, entry-nowhere}
 use Rattle.stepper.proofs.look.is_entry.Statement.{statement}
 use Rattle.stepper.proofs.look.is_entry.Tie as tie
-use Rattle.stepper.proofs.look.is_entry.Reads as reads
-use Rattle.stepper.proofs.look.is_entry.Lts as lts
-use Rattle.stepper.proofs.look.is_job.Reads as is-job-reads
 
 abbrev Inv-loop : tie.InvT-loop
-Inv-loop size deadline sheet place₀ place = ?
+Inv-loop size deadline sheet place₀ place = (anywhere (isArrival sheet size deadline) place ≡ false) × (place ≤ sheet .«job_count»)
 
 abbrev μ-loop : tie.MeasureT-loop
-μ-loop size deadline sheet place₀ place = ?
+μ-loop size deadline sheet place₀ place = sheet .«job_count» - place
 
--- src/look.rt:66:5
 loop-holds : tie.Need-loop-holds Inv-loop μ-loop
-loop-holds c = ?
+unfolding anywhere
+loop-holds c = (refl, omega arith)
 
--- src/look.rt:67:30
 cast-one : tie.Need-cast-one Inv-loop μ-loop
-cast-one c = ?
+cast-one c = omega arith
 
--- src/look.rt:67:19
 mul-one : tie.Need-mul-one Inv-loop μ-loop
-mul-one c = ?
+mul-one c = omega (arith, ranged (counted (c .before .before .args .t1)) (c .before .before .pre) .jobs-high)
 
--- src/look.rt:67:19
 element-copy-out-one : tie.Need-element-copy-out-one Inv-loop μ-loop
-element-copy-out-one c = ?
+element-copy-out-one c = omega (arith, ranged (counted (c .before .before .args .t1)) (c .before .before .pre) .jobs-high)
 
--- src/look.rt:68:12
 is-job-requires : tie.Need-is-job-requires Inv-loop μ-loop
-is-job-requires c κs = ?
+is-job-requires c κs = tt
 
--- src/look.rt:69:13
 returns : tie.Need-returns Inv-loop μ-loop
-returns c = ?
+returns c =
+    let here = c .before .before .before in
+    let a = here .before .before .args in
+    entry-found (a .t1) (a .size) (a .deadline) (here .before .loop .place) (here .loop-test .taken) (c .before .is-job .ensures) (c .if1 .taken)
 
--- src/look.rt:71:9
 add-place : tie.Need-add-place Inv-loop μ-loop
-add-place c = ?
+add-place c = omega arith
 
--- src/look.rt:66:5
 loop-less : tie.Need-loop-less Inv-loop μ-loop
-loop-less c = ?
+loop-less c = omega arith
 
--- src/look.rt:66:5
 loop-again : tie.Need-loop-again Inv-loop μ-loop
-loop-again c = ?
+loop-again c =
+    let here = c .before .before .before in
+    let l = here .before .loop in
+    let a = here .before .before .args in (
+      entry-not-here (a .t1) (a .size) (a .deadline) (l .place) (l .inv .0) (here .loop-test .taken) (c .before .is-job .ensures)
+          (c .if1 .left),
+      omega arith,
+    )
 
--- src/look.rt:61:1
 returns-2 : tie.Need-returns-2 Inv-loop μ-loop
-returns-2 c = ?
+returns-2 c =
+    let a = c .before .before .args in
+    let l = c .before .loop in
+    entry-nowhere (a .t1) (a .size) (a .deadline) (l .place) (l .inv .0) (l .inv .1) (c .loop-test .left)
 
 pub is-entry-spec : {M : Type 1} → statement M
 is-entry-spec =

@@ -1,49 +1,58 @@
+-- `place_of` meets its contract. The loop's invariant: the speed stands at no place passed.
+use Prim.Native.Nat.{_-_, _≤_}
+use mathlib.Core.Path.{_≡_, refl}
+use native.Mathlib.Omega.{arith}
+use Rattle.model.proofs.Refusal.{ranged}
+use Rattle.model.specs.Counted.{counted}
+use Rattle.model.specs.Tests.{firstPlace}
+use Rattle.stepper.proofs.Looking.{isSpeed, speed-not-here, speed-found, speed-nowhere}
 use Rattle.stepper.proofs.look.place_of.Statement.{statement}
 use Rattle.stepper.proofs.look.place_of.Tie as tie
-use Rattle.stepper.proofs.look.place_of.Reads as reads
-use Rattle.stepper.proofs.look.place_of.Lts as lts
 
 abbrev Inv-loop : tie.InvT-loop
-Inv-loop speed sheet place₀ place = ?
+Inv-loop speed sheet place₀ place = (firstPlace (isSpeed sheet speed) place ≡ place) × (place ≤ sheet .«speed_count»)
 
 abbrev μ-loop : tie.MeasureT-loop
-μ-loop speed sheet place₀ place = ?
+μ-loop speed sheet place₀ place = sheet .«speed_count» - place
 
--- src/look.rt:40:5
 loop-holds : tie.Need-loop-holds Inv-loop μ-loop
-loop-holds c = ?
+unfolding firstPlace
+loop-holds c = (refl, omega arith)
 
--- src/look.rt:41:32
 cast-one : tie.Need-cast-one Inv-loop μ-loop
-cast-one c = ?
+cast-one c = omega arith
 
--- src/look.rt:41:19
 mul-one : tie.Need-mul-one Inv-loop μ-loop
-mul-one c = ?
+mul-one c = omega (arith, ranged (counted (c .before .before .args .t1)) (c .before .before .pre) .speeds-high)
 
--- src/look.rt:41:19
 element-copy-out-one : tie.Need-element-copy-out-one Inv-loop μ-loop
-element-copy-out-one c = ?
+element-copy-out-one c = omega (arith, ranged (counted (c .before .before .args .t1)) (c .before .before .pre) .speeds-high)
 
--- src/look.rt:43:13
 returns : tie.Need-returns Inv-loop μ-loop
-returns c = ?
+returns c =
+    let here = c .before .before .before in
+    let l = here .before .loop in
+    let a = here .before .before .args in
+    speed-found (a .t1) (a .speed) (l .place) (l .inv .0) (here .loop-test .taken) (c .if1 .taken)
 
--- src/look.rt:45:9
 add-place : tie.Need-add-place Inv-loop μ-loop
-add-place c = ?
+add-place c = omega arith
 
--- src/look.rt:40:5
 loop-less : tie.Need-loop-less Inv-loop μ-loop
-loop-less c = ?
+loop-less c = omega arith
 
--- src/look.rt:40:5
 loop-again : tie.Need-loop-again Inv-loop μ-loop
-loop-again c = ?
+loop-again c =
+    let here = c .before .before .before in
+    let l = here .before .loop in
+    let a = here .before .before .args in
+    (speed-not-here (a .t1) (a .speed) (l .place) (l .inv .0) (here .loop-test .taken) (c .if1 .left), omega arith)
 
--- src/look.rt:35:1
 returns-2 : tie.Need-returns-2 Inv-loop μ-loop
-returns-2 c = ?
+returns-2 c =
+    let a = c .before .before .args in
+    let l = c .before .loop in
+    speed-nowhere (a .t1) (a .speed) (l .place) (l .inv .0) (l .inv .1) (c .loop-test .left)
 
 pub place-of-spec : {M : Type 1} → statement M
 place-of-spec =

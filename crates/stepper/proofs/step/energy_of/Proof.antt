@@ -1,29 +1,36 @@
+-- `energy_of` meets its contract: the speed's place is found, and its energy stands there.
+use native.Mathlib.Omega.{arith}
 use borrow.Author.Needs.{needs}
+use Rattle.model.proofs.Refusal.{ranged}
+use Rattle.model.specs.Counted.{counted}
+use Rattle.stepper.proofs.Looking.{energy-at-place}
 use Rattle.stepper.proofs.step.energy_of.Statement.{statement}
 use Rattle.stepper.proofs.step.energy_of.Tie as tie
-use Rattle.stepper.proofs.step.energy_of.Reads as reads
-use Rattle.stepper.proofs.step.energy_of.Lts as lts
-use Rattle.stepper.proofs.look.place_of.Reads as place-of-reads
 
--- src/step.rt:28:9
 place-of-requires : tie.Need-place-of-requires
 place-of-requires c κs = search needs
 
--- src/step.rt:29:28
 cast-one : tie.Need-cast-one
 cast-one c = search needs
 
--- src/step.rt:29:15
 mul-one : tie.Need-mul-one
 mul-one c = search needs
 
--- src/step.rt:29:15
 element-copy-out-one : tie.Need-element-copy-out-one
-element-copy-out-one c = ?
+element-copy-out-one c =
+    let start = c .before in
+    let a = start .args in
+    omega (
+      arith,
+      energy-at-place (a .t1) (a .speed) (c .place-of .result) (c .place-of .ensures) (start .pre .1) .0,
+      ranged (counted (a .t1)) (start .pre .0) .speeds-high,
+    )
 
--- src/step.rt:24:1
 returns : tie.Need-returns
-returns c = ?
+returns c =
+    let start = c .before .before in
+    let a = start .args in
+    energy-at-place (a .t1) (a .speed) (c .before .place-of .result) (c .before .place-of .ensures) (start .pre .1) .1
 
 pub energy-of-spec : {M : Type 1} → statement M
 energy-of-spec =

@@ -1,25 +1,42 @@
+-- `byte_right` meets its contract: the byte is no sheet speed, or w(1) decides.
+use Prim.Native.Nat.{ℕ}
+use mathlib.Core.Path.{sym, ap, _∙_}
+use native.Mathlib.Omega.{arith}
 use borrow.Author.Needs.{needs}
+use borrow.Author.Tests.{lt-ltb, le-ltb}
+use lib.Dec.{leb}
+use Rattle.model.proofs.Refusal.{ranged}
+use Rattle.model.proofs.Stepper.{wrong-byte, first-decides}
+use Rattle.model.specs.Counted.{counted}
+use Rattle.queues.proofs.Places.{total-in}
+use Rattle.stepper.proofs.Looking.{on-sheet-place}
 use Rattle.stepper.proofs.tests.byte_right.Statement.{statement}
 use Rattle.stepper.proofs.tests.byte_right.Tie as tie
-use Rattle.stepper.proofs.tests.byte_right.Reads as reads
-use Rattle.stepper.proofs.tests.byte_right.Lts as lts
-use Rattle.stepper.proofs.look.place_of.Reads as place-of-reads
+use Rattle.stepper.specs.Calls.{stateOf}
+use Rattle.stepper.specs.Parts.{placeOfSpeed}
 
--- src/tests.rt:43:29
 place-of-requires : tie.Need-place-of-requires
 place-of-requires c κs = search needs
 
--- src/tests.rt:44:9
 returns : tie.Need-returns
-returns c = ?
+returns c =
+    let a = c .before .before .before .args in
+    sym
+    (wrong-byte (counted (a .sheet)) (stateOf (a .t2)) (a .byte)
+    (on-sheet-place (a .sheet) (a .byte) ∙ le-ltb (placeOfSpeed (counted (a .sheet)) (a .byte)) (a .sheet .«speed_count») (omega (arith, c .if1 .taken, c .before .before .place-of .ensures))))
 
--- src/tests.rt:46:5
 element-copy-out-result : tie.Need-element-copy-out-result
 element-copy-out-result c = search needs
 
--- src/tests.rt:39:1
 returns-2 : tie.Need-returns-2
-returns-2 c = ?
+returns-2 c =
+    let start = c .before .before .before .before in
+    let a = start .args in
+    let s = counted (a .sheet) in
+    ap (λ (first : ℕ). leb first (a .byte)) (sym (total-in (s .bound) (a .t2 .queue) 1 (ranged s (start .pre) .bound-low))) ∙
+    sym
+    (first-decides s (stateOf (a .t2)) (a .byte)
+    (on-sheet-place (a .sheet) (a .byte) ∙ lt-ltb (placeOfSpeed s (a .byte)) (a .sheet .«speed_count») (omega (arith, c .before .if1 .left, c .before .before .before .place-of .ensures))))
 
 pub byte-right-spec : {M : Type 1} → statement M
 byte-right-spec = tie.close (tie.spec place-of-requires returns element-copy-out-result returns-2)

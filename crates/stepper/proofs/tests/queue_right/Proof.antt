@@ -1,26 +1,32 @@
+-- `queue_right` meets its contract: the largest speed is M.
+use Prim.Native.Nat.{ℕ}
+use mathlib.Core.Path.{ap, _∙_}
+use native.Mathlib.Omega.{arith}
 use borrow.Author.Needs.{needs}
+use Rattle.model.proofs.Refusal.{ranged, M-high}
+use Rattle.model.specs.Counted.{counted}
+use Rattle.model.specs.Queue.{bearableIn}
 use Rattle.stepper.proofs.tests.queue_right.Statement.{statement}
 use Rattle.stepper.proofs.tests.queue_right.Tie as tie
-use Rattle.stepper.proofs.tests.queue_right.Reads as reads
-use Rattle.stepper.proofs.tests.queue_right.Lts as lts
-use Rattle.queues.proofs.bearable.Reads as bearable-reads
-use Rattle.sheets.proofs.greatest_of.Reads as greatest-of-reads
 
--- src/tests.rt:18:9
 greatest-of-requires : tie.Need-greatest-of-requires
 greatest-of-requires c κs = search needs
 
--- src/tests.rt:20:30
 cast-bearable : tie.Need-cast-bearable
 cast-bearable c = search needs
 
--- src/tests.rt:20:5
 bearable-requires : tie.Need-bearable-requires
-bearable-requires c κs = ?
+bearable-requires c κs =
+    let start = c .before .before .before in
+    let s = counted (start .args .sheet) in
+    let right = ranged s (start .pre) in
+    (omega (arith, c .before .before .greatest-of .ensures .0, M-high s right), right .bound-high)
 
--- src/tests.rt:14:1
 returns : tie.Need-returns
-returns c = ?
+returns c =
+    let a = c .before .before .before .before .args in
+    c .bearable .ensures ∙
+    ap (λ (largest : ℕ). bearableIn largest (a .sheet .bound) (a .state .queue)) (c .before .before .before .greatest-of .ensures .0)
 
 pub queue-right-spec : {M : Type 1} → statement M
 queue-right-spec =

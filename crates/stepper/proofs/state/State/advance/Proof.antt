@@ -1,35 +1,106 @@
+-- `advance` meets its contract: the speed is refused, or the arrival is no entry, or the state moves on.
+use Prim.Native.Nat.{ℕ}
+use mathlib.Core.Bool.{true}
+use mathlib.Core.Path.{_≡_, refl, sym, ap, _∙_, subst}
 use borrow.Author.Needs.{needs}
+use lib.Dec.{T}
+use Rattle.model.proofs.Refusal.{fields-right}
+use Rattle.model.proofs.Rooms.{row-accepted}
+use Rattle.model.proofs.Stepper.{speed-by, speed-accepted, byte-on-sheet, advance-by, advance-refused, advance-15}
+use Rattle.model.specs.Counted.{counted, onSheet}
+use Rattle.model.specs.Refusal.{fieldsRefusal}
+use Rattle.model.specs.Stepper.{Stepped, Told, planByte, speedRefusal, isEntry, moved}
+use Rattle.sheets.proofs.Answers.{passed-by, failed-by}
+use Rattle.stepper.proofs.Looking.{entry-small}
+use Rattle.stepper.proofs.Outcomes.{stepped-as, refused-gives, moved-advances}
 use Rattle.stepper.proofs.state.State.advance.Statement.{statement}
 use Rattle.stepper.proofs.state.State.advance.Tie as tie
-use Rattle.stepper.proofs.state.State.advance.Reads as reads
-use Rattle.stepper.proofs.state.State.advance.Lts as lts
-use Rattle.stepper.proofs.look.is_entry.Reads as is-entry-reads
-use Rattle.stepper.proofs.state.State.speed.Reads as speed-reads
-use Rattle.stepper.proofs.step.moved.Reads as moved-reads
+use Rattle.stepper.specs.Calls.{stateOf, IsStepped}
 
--- src/state.rt:105:13
+-- the number told is that of the speed's refusal
+refusal : (c : tie.After-struct-known) →
+    let a = c .before .before .before .args in
+    c .before .speed .result .number ≡ speedRefusal (counted (a .sheet)) (a .plan .now) (stateOf (a .self))
+refusal c =
+    let a = c .before .before .before .args in
+    c .before .speed .ensures .number-is ∙
+    ap (λ (r : Told). r .number) (speed-by (counted (a .sheet)) (a .plan .now) (stateOf (a .self)) refl)
+
+-- behind the first test the speed is not refused
+passed : (c : tie.Else1) →
+    let a = c .before .before .before .before .args in
+    speedRefusal (counted (a .sheet)) (a .plan .now) (stateOf (a .self)) ≡ 0
+passed c = sym (refusal (c .before)) ∙ c .if1 .left
+
+-- so that the sheet's fields are right
+fields : (c : tie.Else1) → fieldsRefusal (counted (c .before .before .before .before .args .sheet)) ≡ 0
+fields c =
+    let a = c .before .before .before .before .args in
+    let s = counted (a .sheet) in
+    fields-right s (row-accepted s _ (speed-accepted s (a .plan .now) (stateOf (a .self)) (passed c) .0) .0)
+
+-- and the speed told is the plan's
+byte : (c : tie.Else1) →
+    let a = c .before .before .before .before .args in
+    c .before .before .speed .result .speed ≡ planByte (counted (a .sheet)) (a .plan .now) (stateOf (a .self))
+byte c =
+    let a = c .before .before .before .before .args in
+    c .before .before .speed .ensures .speed-is ∙
+    ap (λ (r : Told). r .speed) (speed-by (counted (a .sheet)) (a .plan .now) (stateOf (a .self)) (passed c))
+
 speed-requires : tie.Need-speed-requires
 speed-requires c κs = search needs
 
--- src/state.rt:107:13
 returns : tie.Need-returns
-returns c = ?
+returns c =
+    let a = c .before .before .before .before .args in
+    let s = counted (a .sheet) in
+    let x = stateOf (a .self) in
+    stepped-as (a .self)
+    (advance-by s (a .plan .now) x (a .size) (a .deadline)
+    (advance-refused s (a .plan .now) x (a .size) (a .deadline) (refusal (c .before)) (c .if1 .taken)))
+    (refused-gives (moved s x (planByte s (a .plan .now) x) (a .size) (a .deadline)) x (c .if1 .taken))
 
--- src/state.rt:112:13
 is-entry-requires : tie.Need-is-entry-requires
-is-entry-requires c κs = ?
+is-entry-requires c κs = fields c
 
--- src/state.rt:113:13
 returns-2 : tie.Need-returns-2
-returns-2 c = ?
+returns-2 c =
+    let accepted = c .before .before in
+    let a = accepted .before .before .before .before .args in
+    let s = counted (a .sheet) in
+    let x = stateOf (a .self) in
+    stepped-as (a .self)
+    (advance-by s (a .plan .now) x (a .size) (a .deadline)
+    (advance-15 s (a .plan .now) x (a .size) (a .deadline) (passed accepted) (failed-by (c .before .is-entry .ensures) (c .if2 .taken))))
+    refl
 
--- src/state.rt:118:9
+-- behind the second one the arrival is an entry
+entry : (c : tie.Else2) →
+    let a = c .before .before .before .before .before .before .args in
+    isEntry (counted (a .sheet)) (a .size) (a .deadline) ≡ true
+entry c = passed-by (c .before .is-entry .ensures) (c .if2 .left)
+
 moved-requires : tie.Need-moved-requires
-moved-requires c κs = ?
+moved-requires c κs =
+    let accepted = c .before .before in
+    let a = accepted .before .before .before .before .args in
+    let s = counted (a .sheet) in
+    let x = stateOf (a .self) in
+    let told = speed-accepted s (a .plan .now) x (passed accepted) in (
+      fields accepted,
+      told .1,
+      subst (λ (speed : ℕ). T (onSheet s speed)) (sym (byte accepted)) (byte-on-sheet s x (planByte s (a .plan .now) x) (told .2)),
+      entry-small (a .sheet) (a .size) (a .deadline) (fields accepted) (subst T (sym (entry c)) tt),
+    )
 
--- src/state.rt:102:5
 returns-3 : tie.Need-returns-3
-returns-3 c = ?
+returns-3 c =
+    let accepted = c .before .before .before in
+    let a = accepted .before .before .before .before .args in
+    subst (λ (said : Stepped). IsStepped said (c .moved .result .number) (c .moved .result .state))
+    (moved-advances (counted (a .sheet)) (stateOf (a .self)) _ (a .size) (a .deadline) (a .plan .now) (byte accepted) (passed accepted) (entry (c .before)))
+    (c .moved .ensures)
 
 pub advance-spec : {M : Type 1} → statement M
 advance-spec =

@@ -1,53 +1,125 @@
+-- `speed` meets its contract: the sheet or the plan's room is refused, or the state is not right, or the run has ended, or the plan byte
+-- decides.
+use mathlib.Core.Path.{_≡_, refl, sym, ap, subst, _∙_}
+use mathlib.Core.Bool.{Bool, true}
+use native.Mathlib.Omega.{arith}
 use borrow.Author.Needs.{needs}
+use lib.Dec.{T}
+use lib.ListN.{length}
+use Rattle.model.proofs.Refusal.{fields-right}
+use Rattle.model.proofs.Rooms.{row-accepted}
+use Rattle.model.proofs.Stepper.{state-right, speed-by, speed-refused, speed-13, speed-14, speed-16-or-0, byte-at}
+use Rattle.model.proofs.Tests.{check-true, check-false}
+use Rattle.model.specs.Counted.{counted}
+use Rattle.model.specs.Plan.{rowRefusal}
+use Rattle.model.specs.Refusal.{fieldsRefusal}
+use Rattle.model.specs.Stepper.{stateRight, byteRight, planByte, speedRefusal}
+use Rattle.model.specs.Tests.{check}
+use Rattle.sheets.proofs.Answers.{passed-by, failed-by}
+use Rattle.stepper.proofs.Outcomes.{told-as, refused-gives}
 use Rattle.stepper.proofs.state.State.speed.Statement.{statement}
 use Rattle.stepper.proofs.state.State.speed.Tie as tie
-use Rattle.stepper.proofs.state.State.speed.Reads as reads
-use Rattle.stepper.proofs.state.State.speed.Lts as lts
-use Rattle.queues.proofs.table.Reads as table-reads
-use Rattle.sheets.proofs.row_refusal.Reads as row-refusal-reads
-use Rattle.stepper.proofs.look.plan_byte.Reads as plan-byte-reads
-use Rattle.stepper.proofs.tests.byte_right.Reads as byte-right-reads
-use Rattle.stepper.proofs.tests.state_right.Reads as state-right-reads
+use Rattle.stepper.specs.Calls.{stateOf}
 
--- src/state.rt:71:22
+-- behind the first test the sheet is accepted and the plan has room
+passed : (c : tie.Else1) →
+    let a = c .before .before .before .before .before .args in
+    rowRefusal (counted (a .sheet)) (length (a .plan .now)) ≡ 0
+passed c = sym (c .before .row-refusal .ensures) ∙ c .if1 .left
+
+-- so that the sheet's fields are right
+fields : (c : tie.Else1) → fieldsRefusal (counted (c .before .before .before .before .before .args .sheet)) ≡ 0
+fields c =
+    let s = counted (c .before .before .before .before .before .args .sheet) in
+    fields-right s (row-accepted s _ (passed c) .0)
+
+-- behind the second one the state is right
+right : (c : tie.Else2) →
+    let a = c .before .before .before .before .before .before .before .args in
+    stateRight (counted (a .sheet)) (stateOf (a .self)) ≡ true
+right c = passed-by (c .before .state-right .ensures) (c .if2 .left)
+
+-- behind the third one it is before the horizon, and the plan byte decides
+byte : (c : tie.After-byte-right) →
+    let a = c .before .before .before .before .before .before .before .before .before .before .before .before .before .before .args in
+    c .before .plan-byte .result ≡ planByte (counted (a .sheet)) (a .plan .now) (stateOf (a .self))
+byte c =
+    let a = c .before .before .before .before .before .before .before .before .before .before .before .before .before .before .args in
+    c .before .plan-byte .ensures ∙ byte-at (counted (a .sheet)) (a .plan .now) _ ∙ sym (byte-at (counted (a .sheet)) (a .plan .now) (stateOf (a .self)))
+
 table-requires : tie.Need-table-requires
 table-requires c κs = search needs
 
--- src/state.rt:72:13
 row-refusal-requires : tie.Need-row-refusal-requires
 row-refusal-requires c κs = search needs
 
--- src/state.rt:74:13
 returns : tie.Need-returns
-returns c = ?
+returns c =
+    let a = c .before .before .before .before .before .args in
+    let s = counted (a .sheet) in
+    told-as (speed-by s (a .plan .now) (stateOf (a .self)) (speed-refused s (a .plan .now) (stateOf (a .self)) (c .before .row-refusal .ensures) (c .if1 .taken)))
+    (refused-gives (planByte s (a .plan .now) (stateOf (a .self))) 0 (c .if1 .taken))
 
--- src/state.rt:76:13
 state-right-requires : tie.Need-state-right-requires
-state-right-requires c κs = ?
+state-right-requires c κs = fields c
 
--- src/state.rt:77:13
 returns-2 : tie.Need-returns-2
-returns-2 c = ?
+returns-2 c =
+    let told = c .before in
+    let a = told .before .before .before .before .before .before .args in
+    let s = counted (a .sheet) in
+    told-as
+    (speed-by s (a .plan .now) (stateOf (a .self))
+    (speed-13 s (a .plan .now) (stateOf (a .self)) (passed (told .before)) (failed-by (told .state-right .ensures) (c .if2 .taken))))
+    refl
 
--- src/state.rt:83:13
 returns-3 : tie.Need-returns-3
-returns-3 c = ?
+returns-3 c =
+    let told = c .before .before .before in
+    let a = told .before .before .before .before .before .before .before .args in
+    let s = counted (a .sheet) in
+    told-as
+    (speed-by s (a .plan .now) (stateOf (a .self))
+    (speed-14 s (a .plan .now) (stateOf (a .self)) (passed (told .before .before)) (right told) (c .if3 .taken)))
+    refl
 
--- src/state.rt:88:13
 plan-byte-requires : tie.Need-plan-byte-requires
-plan-byte-requires c κs = ?
+plan-byte-requires c κs =
+    let later = c .before .before in
+    let told = later .before .before .before in
+    let accepted = told .before .before in
+    let a = accepted .before .before .before .before .before .args in
+    let state = state-right (counted (a .sheet)) (stateOf (a .self)) (subst T (sym (right told)) tt) in
+    (accepted .before .before .before .table .ensures, passed accepted, omega (arith, state .1, later .if3 .left), state .0)
 
--- src/state.rt:89:13
 byte-right-requires : tie.Need-byte-right-requires
-byte-right-requires c κs = ?
+byte-right-requires c κs = fields (c .before .before .before .before .before .before .before .before)
 
--- src/state.rt:90:13
+-- the number, by what was asked of the plan byte
+number : (c : tie.After-byte-right) →
+    let a = c .before .before .before .before .before .before .before .before .before .before .before .before .before .before .args in
+    speedRefusal (counted (a .sheet)) (a .plan .now) (stateOf (a .self)) ≡ check (c .byte-right .result) 16
+number c =
+    let later = c .before .before .before .before in
+    let told = later .before .before .before in
+    let accepted = told .before .before in
+    let a = accepted .before .before .before .before .before .args in
+    let s = counted (a .sheet) in
+    let x = stateOf (a .self) in
+    speed-16-or-0 s (a .plan .now) x (passed accepted) (right told) (later .if3 .left) ∙
+    ap (λ (b : Bool). check b 16) (ap (byteRight s x) (sym (byte c)) ∙ sym (c .byte-right .ensures))
+
 returns-4 : tie.Need-returns-4
-returns-4 c = ?
+returns-4 c =
+    let a = c .before .before .before .before .before .before .before .before .before .before .before .before .before .before .before .args in
+    let s = counted (a .sheet) in
+    told-as (speed-by s (a .plan .now) (stateOf (a .self)) (number (c .before) ∙ check-false (c .before .byte-right .result) 16 (failed-by refl (c .if4 .taken)))) refl
 
--- src/state.rt:68:5
 returns-5 : tie.Need-returns-5
-returns-5 c = ?
+returns-5 c =
+    let a = c .before .before .before .before .before .before .before .before .before .before .before .before .before .before .before .args in
+    let s = counted (a .sheet) in
+    told-as (speed-by s (a .plan .now) (stateOf (a .self)) (number (c .before) ∙ check-true (c .before .byte-right .result) 16 (passed-by refl (c .if4 .left)))) (byte (c .before))
 
 pub speed-spec : {M : Type 1} → statement M
 speed-spec =

@@ -1,44 +1,62 @@
+-- `start` meets its contract: the sheet is refused, or the queue is not right, or the run begins.
+use mathlib.Core.Path.{_≡_, refl, sym, _∙_}
 use borrow.Author.Needs.{needs}
+use Rattle.model.proofs.Refusal.{fields-right}
+use Rattle.model.proofs.Stepper.{start-by, start-refused, start-13, start-0}
+use Rattle.model.specs.Counted.{counted}
+use Rattle.model.specs.Refusal.{sheetRefusal}
+use Rattle.model.specs.Stepper.{zeroState}
+use Rattle.sheets.proofs.Answers.{passed-by, failed-by}
+use Rattle.stepper.proofs.Outcomes.{stepped-as, refused-gives}
 use Rattle.stepper.proofs.state.State.start.Statement.{statement}
 use Rattle.stepper.proofs.state.State.start.Tie as tie
-use Rattle.stepper.proofs.state.State.start.Reads as reads
-use Rattle.stepper.proofs.state.State.start.Lts as lts
-use Rattle.queues.proofs.table.Reads as table-reads
-use Rattle.sheets.proofs.sheet_refusal.Reads as sheet-refusal-reads
-use Rattle.stepper.proofs.state.zero_state.Reads as zero-state-reads
-use Rattle.stepper.proofs.tests.queue_right.Reads as queue-right-reads
+use Rattle.stepper.specs.Calls.{stateOf}
 
--- src/state.rt:42:22
+-- behind the first test the sheet is accepted
+passed : (c : tie.Else1) → sheetRefusal (counted (c .before .before .before .before .args .sheet)) ≡ 0
+passed c = sym (c .before .sheet-refusal .ensures) ∙ c .if1 .left
+
 table-requires : tie.Need-table-requires
 table-requires c κs = search needs
 
--- src/state.rt:43:13
 sheet-refusal-requires : tie.Need-sheet-refusal-requires
 sheet-refusal-requires c κs = search needs
 
--- src/state.rt:47:24
 zero-state-requires : tie.Need-zero-state-requires
 zero-state-requires c κs = search needs
 
--- src/state.rt:45:13
 returns : tie.Need-returns
-returns c = ?
+returns c =
+    let a = c .before .before .before .before .before .args in
+    let some = c .before .if1 .taken in
+    stepped-as (c .zero-state .result)
+    (start-by (counted (a .sheet)) (stateOf (a .self))
+    (start-refused (counted (a .sheet)) (stateOf (a .self)) (c .before .before .sheet-refusal .ensures) some))
+    (c .zero-state .ensures ∙ refused-gives (record { queue = a .self .queue; slot = 0; energy = 0 }) zeroState some)
 
--- src/state.rt:50:13
 queue-right-requires : tie.Need-queue-right-requires
-queue-right-requires c κs = ?
+queue-right-requires c κs = fields-right (counted (c .before .before .before .before .args .sheet)) (passed c)
 
--- src/state.rt:53:24
 zero-state-requires-2 : tie.Need-zero-state-requires-2
 zero-state-requires-2 c κs = search needs
 
--- src/state.rt:51:13
 returns-2 : tie.Need-returns-2
-returns-2 c = ?
+returns-2 c =
+    let told = c .before .before in
+    let a = told .before .before .before .before .before .args in
+    stepped-as (c .zero-state2 .result)
+    (start-by (counted (a .sheet)) (stateOf (a .self))
+    (start-13 (counted (a .sheet)) (stateOf (a .self)) (passed (told .before)) (failed-by (told .queue-right .ensures) (c .before .if2 .taken))))
+    (c .zero-state2 .ensures)
 
--- src/state.rt:39:5
 returns-3 : tie.Need-returns-3
-returns-3 c = ?
+returns-3 c =
+    let told = c .before .before in
+    let a = told .before .before .before .before .before .args in
+    stepped-as _
+    (start-by (counted (a .sheet)) (stateOf (a .self))
+    (start-0 (counted (a .sheet)) (stateOf (a .self)) (passed (told .before)) (passed-by (told .queue-right .ensures) (c .before .if2 .left))))
+    refl
 
 pub start-spec : {M : Type 1} → statement M
 start-spec =

@@ -1,0 +1,197 @@
+-- Laws of the stepper's definitions (specs/Stepper.antt): what each call answers by its number, and its number by the tests that pass and
+-- the one that fails. The stepper's proofs, and those of stepping, cite these, and not the definitions.
+use Prim.Native.Nat.{ℕ, suc, _+_, _*_, _≤_, _<_}
+use mathlib.Core.Path.{_≡_, refl, sym, ap, _∙_}
+use mathlib.Core.Bool.{Bool, true, false, cond, not, _&&_}
+use mathlib.Core.List.{List}
+use borrow.Author.Tests.{le-leb, lt-leb, eq-eqb, ne-eqb}
+use lib.Dec.{T, leb, eqb, leb→le}
+use lib.ListN.{length, getD}
+use Rattle.model.specs.Counted.{Counted, onSheet, energyOf, greatestEnergy, M}
+use Rattle.model.specs.Plan.{placeAt, rowRefusal}
+use Rattle.model.specs.Queue.{total, placesOf, bearable, oneSlot, numberOf}
+use Rattle.model.specs.Refusal.{sheetRefusal}
+use Rattle.model.specs.Stepper.{State, queueOf, queueRight, stateRight, zeroState, startRefusal, start, planByte, byteRight, speedRefusal, speed, isEntry, moved, advanceRefusal, advance}
+use Rattle.model.specs.Tests.{check, _then_}
+use Rattle.model.proofs.Tests.{and-left, and-right, and-fails-right, check-zero, check-true, check-false, then-left, then-right, then-on, then-passes, then-fails, then-stops, then-then}
+
+module _ (s : Counted) where
+  -- start
+
+  -- what it answers, by its number
+  pub start-by : (x : State) {number : ℕ} → startRefusal s x ≡ number →
+      start s x ≡
+      record { number = number; state = cond (eqb number 0) (record { queue = x .queue; slot = 0; energy = 0 }) zeroState }
+  unfolding start
+  start-by x e = λ i. record { number = e i; state = cond (eqb (e i) 0) (record { queue = x .queue; slot = 0; energy = 0 }) zeroState }
+
+  -- it refuses a sheet that is refused, with the sheet's number
+  pub start-refused : (x : State) {number : ℕ} → number ≡ sheetRefusal s → (number ≡ 0 → ⊥) → startRefusal s x ≡ number
+  unfolding startRefusal
+  start-refused x {number = number} e some = rw (← e) (then-stops number _ some)
+
+  -- and 13 where the queue is not right
+  pub start-13 : (x : State) → sheetRefusal s ≡ 0 → queueRight s x ≡ false → startRefusal s x ≡ 13
+  unfolding startRefusal
+  start-13 x e wrong = then-on (sheetRefusal s) _ e ∙ check-false (queueRight s x) 13 wrong
+
+  -- and 0 otherwise
+  pub start-0 : (x : State) → sheetRefusal s ≡ 0 → queueRight s x ≡ true → startRefusal s x ≡ 0
+  unfolding startRefusal
+  start-0 x e right = then-on (sheetRefusal s) _ e ∙ check-true (queueRight s x) 13 right
+
+  -- 4 to 10 and 11 are the row call's tests
+  pub speed-in-parts : (plan : List ℕ) (x : State) →
+      speedRefusal s plan x ≡
+      rowRefusal s (length plan) then
+      (check (stateRight s x) 13 then (check (not (eqb (x .slot) (s .horizon))) 14 then check (byteRight s x (planByte s plan x)) 16))
+  unfolding speedRefusal rowRefusal
+  speed-in-parts plan x = sym (then-then (sheetRefusal s) _ _)
+
+  -- a speed is told by its number
+  pub speed-by : (plan : List ℕ) (x : State) {number : ℕ} → speedRefusal s plan x ≡ number →
+      speed s plan x ≡ record { number = number; speed = cond (eqb number 0) (planByte s plan x) 0 }
+  unfolding speed
+  speed-by plan x e = λ i. record { number = e i; speed = cond (eqb (e i) 0) (planByte s plan x) 0 }
+
+  -- and so is a step
+  pub advance-by : (plan : List ℕ) (x : State) (size deadline : ℕ) {number : ℕ} → advanceRefusal s plan x size deadline ≡ number →
+      advance s plan x size deadline ≡
+      record { number = number; state = cond (eqb number 0) (moved s x (planByte s plan x) size deadline) x }
+  unfolding advance
+  advance-by plan x size deadline e =
+      λ i. record { number = e i; state = cond (eqb (e i) 0) (moved s x (planByte s plan x) size deadline) x }
+
+  -- what 13 tests, as facts
+  pub state-right : (x : State) → T (stateRight s x) →
+      T (queueRight s x) × (x .slot ≤ s .horizon) × (x .energy ≤ x .slot * greatestEnergy s)
+  unfolding stateRight
+  state-right x t =
+      let slot = leb (x .slot) (s .horizon) in
+      let energy = leb (x .energy) (x .slot * greatestEnergy s) in
+      let both = and-left (queueRight s x && slot) energy t in (
+        and-left (queueRight s x) slot both,
+        leb→le (x .slot) (s .horizon) (and-right (queueRight s x) slot both),
+        leb→le (x .energy) (x .slot * greatestEnergy s) (and-right (queueRight s x && slot) energy t),
+      )
+
+  -- 13's test, by its parts: a state is not right where its queue is not
+
+  pub wrong-queue : (x : State) → queueRight s x ≡ false → stateRight s x ≡ false
+  unfolding stateRight
+  wrong-queue x e =
+      ap (λ (b : Bool). b && leb (x .slot) (s .horizon) && leb (x .energy) (x .slot * greatestEnergy s)) e
+
+  -- nor where its slot is past the horizon
+  pub wrong-slot : (x : State) → s .horizon < x .slot → stateRight s x ≡ false
+  unfolding stateRight
+  wrong-slot x h =
+      ap (λ (b : Bool). b && leb (x .energy) (x .slot * greatestEnergy s))
+      (and-fails-right (queueRight s x) _ (lt-leb (x .slot) (s .horizon) h))
+
+  -- and otherwise its energy decides
+  pub energy-decides : (x : State) → queueRight s x ≡ true → x .slot ≤ s .horizon →
+      stateRight s x ≡ leb (x .energy) (x .slot * greatestEnergy s)
+  unfolding stateRight
+  energy-decides x e h =
+      ap (λ (b : Bool). b && leb (x .slot) (s .horizon) && leb (x .energy) (x .slot * greatestEnergy s)) e ∙
+      ap (λ (b : Bool). b && leb (x .energy) (x .slot * greatestEnergy s)) (le-leb (x .slot) (s .horizon) h)
+
+  -- speed
+
+  -- it refuses what the row call refuses
+  pub speed-refused : (plan : List ℕ) (x : State) {number : ℕ} → number ≡ rowRefusal s (length plan) → (number ≡ 0 → ⊥) →
+      speedRefusal s plan x ≡ number
+  speed-refused plan x {number = number} e some = speed-in-parts plan x ∙ rw (← e) (then-stops number _ some)
+
+  -- what is left where the row call refuses nothing
+  after-row : (plan : List ℕ) (x : State) → rowRefusal s (length plan) ≡ 0 →
+      speedRefusal s plan x ≡
+      check (stateRight s x) 13 then (check (not (eqb (x .slot) (s .horizon))) 14 then check (byteRight s x (planByte s plan x)) 16)
+  after-row plan x e = speed-in-parts plan x ∙ then-on (rowRefusal s (length plan)) _ e
+
+  -- then 13, where the state is not right
+  pub speed-13 : (plan : List ℕ) (x : State) → rowRefusal s (length plan) ≡ 0 → stateRight s x ≡ false → speedRefusal s plan x ≡ 13
+  speed-13 plan x e wrong = after-row plan x e ∙ then-fails (stateRight s x) 12 _ wrong
+
+  -- then 14, at the horizon
+  pub speed-14 : (plan : List ℕ) (x : State) → rowRefusal s (length plan) ≡ 0 → stateRight s x ≡ true → x .slot ≡ s .horizon →
+      speedRefusal s plan x ≡ 14
+  speed-14 plan x e right last =
+      after-row plan x e ∙ then-passes (stateRight s x) 13 _ right ∙
+      then-fails (not (eqb (x .slot) (s .horizon))) 13 _ (ap not (eq-eqb (x .slot) (s .horizon) last))
+
+  -- before the horizon the plan byte decides
+  pub speed-16-or-0 : (plan : List ℕ) (x : State) → rowRefusal s (length plan) ≡ 0 → stateRight s x ≡ true → (x .slot ≡ s .horizon → ⊥) →
+      speedRefusal s plan x ≡ check (byteRight s x (planByte s plan x)) 16
+  speed-16-or-0 plan x e right before =
+      after-row plan x e ∙ then-passes (stateRight s x) 13 _ right ∙
+      then-passes (not (eqb (x .slot) (s .horizon))) 14 _ (ap not (ne-eqb (x .slot) (s .horizon) before))
+
+  -- what a speed call that is not refused has: room for the plan, a right state before the horizon, and a right plan byte
+  pub speed-accepted : (plan : List ℕ) (x : State) → speedRefusal s plan x ≡ 0 →
+      (rowRefusal s (length plan) ≡ 0) × T (stateRight s x) × T (byteRight s x (planByte s plan x))
+  speed-accepted plan x e =
+      let whole = sym (speed-in-parts plan x) ∙ e in
+      let row = rowRefusal s (length plan) in
+      let state = then-right row _ whole in
+      let slot = then-right (check (stateRight s x) 13) _ state in
+      let byte = then-right (check (not (eqb (x .slot) (s .horizon))) 14) _ slot in (
+        then-left row _ whole,
+        check-zero (stateRight s x) 12 (then-left (check (stateRight s x) 13) _ state),
+        check-zero (byteRight s x (planByte s plan x)) 15 byte,
+      )
+
+  -- the plan byte, by its place
+  pub byte-at : (plan : List ℕ) (x : State) → planByte s plan x ≡ getD plan (placeAt s (x .slot) (numberOf (M s) (queueOf s x))) 0
+  unfolding planByte
+  byte-at plan x = refl
+
+  -- 16's test: a plan byte that is no sheet speed is wrong
+  pub wrong-byte : (x : State) (byte : ℕ) → onSheet s byte ≡ false → byteRight s x byte ≡ false
+  unfolding byteRight
+  wrong-byte x byte e = ap (λ (b : Bool). b && leb (total (queueOf s x) 1) byte) e
+
+  -- and a sheet speed is compared with w(1)
+  pub first-decides : (x : State) (byte : ℕ) → onSheet s byte ≡ true → byteRight s x byte ≡ leb (total (queueOf s x) 1) byte
+  unfolding byteRight
+  first-decides x byte e = ap (λ (b : Bool). b && leb (total (queueOf s x) 1) byte) e
+
+  -- a right plan byte is a sheet speed
+  pub byte-on-sheet : (x : State) (byte : ℕ) → T (byteRight s x byte) → T (onSheet s byte)
+  unfolding byteRight
+  byte-on-sheet x byte t = and-left (onSheet s byte) _ t
+
+  -- advance
+
+  -- the next state
+  pub moved-by : (x : State) (byte size deadline : ℕ) →
+      moved s x byte size deadline ≡
+      record {
+        queue = placesOf (oneSlot (queueOf s x) byte size deadline);
+        slot = suc (x .slot);
+        energy = x .energy + energyOf s byte;
+      }
+  unfolding moved
+  moved-by x byte size deadline = refl
+
+  -- it refuses what the speed call refuses
+  pub advance-refused : (plan : List ℕ) (x : State) (size deadline : ℕ) {number : ℕ} → number ≡ speedRefusal s plan x → (number ≡ 0 → ⊥) →
+      advanceRefusal s plan x size deadline ≡ number
+  unfolding advanceRefusal
+  advance-refused plan x size deadline {number = number} e some = rw (← e) (then-stops number _ some)
+
+  -- then 15, where the arrival is no entry
+  pub advance-15 : (plan : List ℕ) (x : State) (size deadline : ℕ) → speedRefusal s plan x ≡ 0 → isEntry s size deadline ≡ false →
+      advanceRefusal s plan x size deadline ≡ 15
+  unfolding advanceRefusal
+  advance-15 plan x size deadline e wrong = then-on (speedRefusal s plan x) _ e ∙ then-fails (isEntry s size deadline) 14 _ wrong
+
+  -- and 17 and 18 are left otherwise
+  pub advance-17-or-18 : (plan : List ℕ) (x : State) (size deadline : ℕ) → speedRefusal s plan x ≡ 0 → isEntry s size deadline ≡ true →
+      advanceRefusal s plan x size deadline ≡
+      check (bearable (M s) (queueOf s (moved s x (planByte s plan x) size deadline))) 17 then
+      check (leb (moved s x (planByte s plan x) size deadline .energy) 4294967295) 18
+  unfolding advanceRefusal
+  advance-17-or-18 plan x size deadline e right =
+      then-on (speedRefusal s plan x) _ e ∙ then-passes (isEntry s size deadline) 15 _ right

@@ -1,0 +1,211 @@
+-- Stepping with a right plan is never refused (specs/Stepper.antt): from a queue that has a value, start, speed and each advance by an
+-- entry of the sheet answer 0, and the next queue has a value again; at the horizon the answer is 14. Callers' proofs cite these laws,
+-- and not the stepper's definitions.
+use Prim.Native.Nat.{ℕ, suc, _+_, _*_, _-_, _≤_, _<_, zero-le}
+use mathlib.Core.Path.{_≡_, refl, sym, ap, _∙_, subst}
+use mathlib.Core.Bool.{cond, not, _&&_}
+use mathlib.Core.List.{List}
+use mathlib.Core.Option.{some}
+use native.Mathlib.Nat.{le-refl, le-of-lt, mul-le-mul}
+use native.Mathlib.Omega.{arith}
+use borrow.Author.Tests.{eq-eqb, ne-eqb}
+use lib.Dec.{T, leb, eqb, leb→le, le→leb, eqb-refl}
+use lib.ListN.{length, getD}
+use Rattle.process.specs.Ways.{IsFirst}
+use Rattle.process.proofs.Value.{first-step}
+use Rattle.model.specs.Counted.{Counted, sizeAt, deadlineAt, weightAt, onSheet, energyOf, greatestEnergy, M}
+use Rattle.model.specs.Plan.{nextQueue, processOf, IsValueAt, placeAt, rowRefusal}
+use Rattle.model.specs.Queue.{Queue, total, positions, queueIn, placesOf, bearable, bearableIn, oneSlot, numberOf}
+use Rattle.model.specs.Refusal.{sheetRefusal}
+use Rattle.model.specs.Stepper.{State, queueOf, queueRight, stateRight, zeroState, startRefusal, start, planByte, byteRight, speedRefusal, speed, isEntry, moved, advanceRefusal, advance}
+use Rattle.model.specs.Tests.{check, _then_}
+use Rattle.model.proofs.Admissible.{good-bearable}
+use Rattle.model.proofs.Counted.{on-sheet, energy-of-upto}
+use Rattle.model.proofs.Queues.{length-slot, held-bearable, length-in, length-places, in-places, places-hold}
+use Rattle.model.proofs.Refusal.{Ranged, accepted, greatest-energy-high}
+use Rattle.model.proofs.Rooms.{row-accepted}
+use Rattle.model.proofs.Stepper.{state-right, start-by, speed-in-parts, speed-by, advance-by}
+use Rattle.model.proofs.Tests.{and-left, and-right, and-both, anywhere-one, check-passes, then-both, then-on, then-passes, then-holds, then-fails, then-stops, then-then}
+
+-- a queue has a value at slot t: some way from there is good
+abbrev pub HasValue : Counted → ℕ → Queue → Type 0
+HasValue s t w = (v : ℕ) × IsValueAt s t w (some v)
+
+-- plan bytes that are right: at every slot before the horizon, for every bearable queue that has a value, the byte begins a least way
+abbrev pub RightPlan : Counted → List ℕ → Type 0
+RightPlan s plan =
+    (t : ℕ) → t < s .horizon → (w : Queue) → length w ≡ s .bound → T (bearable (M s) w) → HasValue s t w →
+    IsFirst (processOf s) (s .jobCount) (weightAt s) (s .horizon - t) w (getD plan (placeAt s t (numberOf (M s) w)) 0)
+
+-- a state at slot t from which stepping goes on
+pub record Going (s : Counted) (t : ℕ) (x : State) : Type 0 where
+  pub six : length (x .queue) ≡ positions
+  pub right : T (queueRight s x)
+  pub at-slot : x .slot ≡ t
+  pub energy-upto : x .energy ≤ t * greatestEnergy s
+  pub has-value : HasValue s t (queueOf s x)
+
+module _ (s : Counted) where
+  -- of a right state of an accepted sheet, the energy and one slot's more of any sheet speed stay below 2^32, so that 18 cannot be met
+  pub energy-small : sheetRefusal s ≡ 0 → (x : State) → T (stateRight s x) → (a : ℕ) → T (onSheet s a) →
+      x .energy + energyOf s a ≤ 4294967295
+  energy-small e x t a on =
+      let ranges = accepted s e .ranged in
+      let most = greatest-energy-high s ranges in
+      let state = state-right s x t in
+      let slot : x .slot ≤ 200 = omega (arith, state .1, ranges .horizon-high) in
+      omega (arith, state .2, mul-le-mul slot most, most, energy-of-upto s a on)
+
+  -- start from a queue that has a value answers 0, and stepping goes on from there
+  pub started : sheetRefusal s ≡ 0 → (x : State) → length (x .queue) ≡ positions → T (queueRight s x) → HasValue s 0 (queueOf s x) →
+      (start s x ≡ record { number = 0; state = record { queue = x .queue; slot = 0; energy = 0 } }) ×
+      Going s 0 (record { queue = x .queue; slot = 0; energy = 0 })
+  unfolding startRefusal
+  started e x six right v =
+      let passes = then-both (sheetRefusal s) (check (queueRight s x) 13) e (check-passes (queueRight s x) 13 right) in (
+        start-by s x passes,
+        record { six = six; right = right; at-slot = refl; energy-upto = zero-le; has-value = v },
+      )
+
+  -- 13 passes of a state from which stepping goes on
+  going-right : (t : ℕ) (x : State) → t ≤ s .horizon → Going s t x → T (stateRight s x)
+  unfolding stateRight
+  going-right t x h g =
+      let slot = le→leb (x .slot) (s .horizon) (omega (arith, g .at-slot)) in
+      let upto = subst (λ (u : ℕ). x .energy ≤ u * greatestEnergy s) (sym (g .at-slot)) (g .energy-upto) in
+      and-both (queueRight s x && leb (x .slot) (s .horizon)) _ (and-both (queueRight s x) _ (g .right) slot)
+      (le→leb (x .energy) (x .slot * greatestEnergy s) upto)
+
+  -- so that of speed's tests 14 and 16 are left
+  going-speed : (plan : List ℕ) (t : ℕ) (x : State) → rowRefusal s (length plan) ≡ 0 → t ≤ s .horizon → Going s t x →
+      speedRefusal s plan x ≡ check (not (eqb (x .slot) (s .horizon))) 14 then check (byteRight s x (planByte s plan x)) 16
+  going-speed plan t x e h g =
+      speed-in-parts s plan x ∙ then-on (rowRefusal s (length plan)) _ e ∙
+      then-holds (stateRight s x) 13 _ (going-right t x h g)
+
+  -- at the horizon: 14, whatever the plan holds and whatever arrives
+  pub ended : (plan : List ℕ) (x : State) → rowRefusal s (length plan) ≡ 0 → Going s (s .horizon) x →
+      (speed s plan x ≡ record { number = 14; speed = 0 }) ×
+      ((size deadline : ℕ) → advance s plan x size deadline ≡ record { number = 14; state = x })
+  unfolding advanceRefusal
+  ended plan x e g = (
+    speed-by s plan x last,
+    λ size deadline. advance-by s plan x size deadline (then-stops (speedRefusal s plan x) _ (λ q. omega (arith, last)) ∙ last),
+  )
+    where
+      last : speedRefusal s plan x ≡ 14
+      last =
+          going-speed plan (s .horizon) x e (le-refl (s .horizon)) g ∙
+          then-fails (not (eqb (x .slot) (s .horizon))) 13 _ (ap not (eq-eqb (x .slot) (s .horizon) (g .at-slot)))
+
+  -- before the horizon, with a right plan
+
+  module _ (plan : List ℕ) (e : rowRefusal s (length plan) ≡ 0) (right-plan : RightPlan s plan)
+      (t : ℕ) (h : t < s .horizon) (x : State) (g : Going s t x) where
+    -- the sheet keeps every range
+    ranges : Ranged s
+    ranges = accepted s (row-accepted s (length plan) e .0) .ranged
+
+    -- the queue has D positions
+    long : length (queueOf s x) ≡ s .bound
+    long = length-in (s .bound) (x .queue) (omega (arith, g .six, ranges .bound-high))
+
+    -- what the plan holds for the state
+    abbrev byte : ℕ
+    byte = planByte s plan x
+
+    -- the plan byte begins a least way
+    first : IsFirst (processOf s) (s .jobCount) (weightAt s) (s .horizon - t) (queueOf s x) byte
+    unfolding planByte
+    first =
+        subst (λ (u : ℕ). IsFirst (processOf s) (s .jobCount) (weightAt s) (s .horizon - t) (queueOf s x)
+        (getD plan (placeAt s u (numberOf (M s) (queueOf s x))) 0)) (sym (g .at-slot))
+        (right-plan t h (queueOf s x) long (held-bearable (M s) (s .bound) (x .queue) (g .right)) (g .has-value))
+
+    -- so it is a sheet speed and at least w(1), and after each entry the queue has a value again
+    onward : T (onSheet s byte) × T (leb (total (queueOf s x) 1) byte) ×
+        ((i : ℕ) → i < s .jobCount → HasValue s (suc t) (oneSlot (queueOf s x) byte (sizeAt s i) (deadlineAt s i)))
+    unfolding processOf nextQueue
+    onward =
+        let slots : s .horizon - t ≡ suc (s .horizon - suc t) = omega arith in
+        let now = subst (λ (k : ℕ). IsFirst (processOf s) (s .jobCount) (weightAt s) k (queueOf s x) byte) slots first in
+        let step = first-step (processOf s) (s .jobCount) (weightAt s) (ranges .jobs-low) (s .horizon - suc t) (queueOf s x) byte now in
+        (on-sheet s byte .1 (step .0), step .1, step .2)
+
+    -- 14 and 16 pass
+    speed-zero : speedRefusal s plan x ≡ 0
+    unfolding byteRight
+    speed-zero =
+        going-speed plan t x e (le-of-lt h) g ∙
+        then-passes (not (eqb (x .slot) (s .horizon))) 14 _
+        (ap not (ne-eqb (x .slot) (s .horizon) (λ q. omega (arith, g .at-slot)))) ∙
+        check-passes (byteRight s x byte) 16 (and-both (onSheet s byte) _ (onward .0) (onward .1))
+
+    -- speed is the plan's, with number 0
+    pub told : speed s plan x ≡ record { number = 0; speed = planByte s plan x }
+    told = speed-by s plan x speed-zero
+
+    -- one entry
+    module _ (i : ℕ) (l : i < s .jobCount) where
+      -- the queue after the slot and the arrival
+      abbrev next : Queue
+      next = oneSlot (queueOf s x) byte (sizeAt s i) (deadlineAt s i)
+
+      -- it has D positions too
+      next-long : length next ≡ s .bound
+      next-long = length-slot (queueOf s x) byte (sizeAt s i) (deadlineAt s i) ∙ long
+
+      -- the next queue stands in its places
+      in-next : queueIn (s .bound) (placesOf next) ≡ next
+      in-next =
+          subst (λ (D : ℕ). queueIn D (placesOf next) ≡ next) next-long
+          (in-places next (omega (arith, next-long, ranges .bound-high)))
+
+      -- a queue that has a value is bearable
+      next-bearable : T (bearable (M s) next)
+      next-bearable =
+          let v = onward .2 i l in
+          good-bearable s (ranges .jobs-low) (s .horizon - suc t) next (v .1 .way) (v .1 .holds)
+
+      -- 15, 17 and 18 pass
+      advance-zero : advanceRefusal s plan x (sizeAt s i) (deadlineAt s i) ≡ 0
+      unfolding advanceRefusal isEntry moved
+      advance-zero =
+          then-on (speedRefusal s plan x) _ speed-zero ∙ then-holds (isEntry s size deadline) 15 _ entry ∙
+          then-holds (bearable (M s) (queueIn (s .bound) (placesOf next))) 17 _
+          (subst (λ (w : Queue). T (bearable (M s) w)) (sym in-next) next-bearable) ∙
+          check-passes (leb (x .energy + energyOf s byte) 4294967295) 18 (le→leb (x .energy + energyOf s byte) 4294967295 small)
+        where
+          size : ℕ
+          size = sizeAt s i
+
+          deadline : ℕ
+          deadline = deadlineAt s i
+
+          entry : T (isEntry s size deadline)
+          entry =
+              anywhere-one (λ j. eqb (sizeAt s j) size && eqb (deadlineAt s j) deadline) (s .jobCount) i l
+              (and-both (eqb size size) _ (eqb-refl size) (eqb-refl deadline))
+
+          small : x .energy + energyOf s byte ≤ 4294967295
+          small =
+              energy-small (row-accepted s (length plan) e .0) x (going-right t x (le-of-lt h) g) byte (onward .0)
+
+      -- and stepping goes on
+      next-going : Going s (suc t) (moved s x byte (sizeAt s i) (deadlineAt s i))
+      unfolding moved
+      next-going =
+          let few : length next ≤ 6 = omega (arith, next-long, ranges .bound-high) in
+          record {
+            six = length-places next;
+            right = subst (λ (D : ℕ). T (bearableIn (M s) D (placesOf next))) next-long (places-hold (M s) next few next-bearable);
+            at-slot = ap suc (g .at-slot);
+            energy-upto = omega (arith, g .energy-upto, energy-of-upto s byte (onward .0));
+            has-value = subst (HasValue s (suc t)) (sym in-next) (onward .2 i l);
+          }
+
+      -- advance by any entry of the sheet: number 0, the next state, and stepping goes on from it
+      pub stepped : (advance s plan x (sizeAt s i) (deadlineAt s i) ≡
+          record { number = 0; state = moved s x (planByte s plan x) (sizeAt s i) (deadlineAt s i) }) ×
+          Going s (suc t) (moved s x (planByte s plan x) (sizeAt s i) (deadlineAt s i))
+      stepped = (advance-by s plan x (sizeAt s i) (deadlineAt s i) advance-zero, next-going)

@@ -1,0 +1,83 @@
+-- What the calls answer, from what the model's definitions say.
+use Prim.Native.Nat.{ℕ, _+_, _≤_, _<_}
+use mathlib.Core.Path.{_≡_, sym, ap, _∙_}
+use mathlib.Core.Bool.{Bool, true, false, cond}
+use mathlib.Core.List.{List}
+use native.Mathlib.Omega.{arith}
+use borrow.Author.Tests.{le-leb, lt-leb, ne-eqb}
+use lib.Dec.{leb, eqb}
+use Rattle.model.proofs.Stepper.{moved-by, advance-by, advance-17-or-18}
+use Rattle.model.proofs.Tests.{check-true, check-false, then-passes, then-fails}
+use Rattle.model.specs.Counted.{Counted, energyOf, M}
+use Rattle.model.specs.Queue.{queueIn, placesOf, bearable, oneSlot}
+use Rattle.model.specs.Tests.{check, _then_}
+use Rattle.model.specs.Stepper as model
+use Rattle.stepper.specs.Calls.{stateOf, IsStepped, IsTold}
+use Rattle.stepper.specs.Parts.{movedOrRefused}
+use Rattle.stepper.specs.declared.state.State.{State}
+
+-- a start or an advance, by what the model says
+pub stepped-as : {said : model.Stepped} {number : ℕ} {given : model.State} (state : State) → said ≡ record { number = number; state = given } →
+    stateOf state ≡ given → IsStepped said number state
+stepped-as state e same =
+    record { number-is = sym (ap (λ (r : model.Stepped). r .number) e); state-is = same ∙ sym (ap (λ (r : model.Stepped). r .state) e) }
+
+-- a speed call, by what the model says
+pub told-as : {said : model.Told} {number given speed : ℕ} → said ≡ record { number = number; speed = given } → speed ≡ given →
+    IsTold said number speed
+told-as e same = record { number-is = sym (ap (λ (r : model.Told). r .number) e); speed-is = same ∙ sym (ap (λ (r : model.Told). r .speed) e) }
+
+-- where a number is not 0, what a refusal gives is given
+pub refused-gives : {A : Type 0} {number : ℕ} (done refused : A) → (number ≡ 0 → ⊥) → refused ≡ cond (eqb number 0) done refused
+refused-gives {number = number} done refused some = sym (ap (λ (b : Bool). cond b done refused) (ne-eqb number 0 some))
+
+-- what is left of an advance
+
+module _ (s : Counted) (x : model.State) (speed size deadline : ℕ) where
+  abbrev next : model.State
+  next = model.moved s x speed size deadline
+
+  -- by its number
+  moved-by-number : {number : ℕ} → check (bearable (M s) (model.queueOf s next)) 17 then check (leb (next .energy) 4294967295) 18 ≡ number →
+      movedOrRefused s x speed size deadline ≡ record { number = number; state = cond (eqb number 0) next x }
+  unfolding movedOrRefused
+  moved-by-number e = λ i. record { number = e i; state = cond (eqb (e i) 0) next x }
+
+  -- what the code asked of the queue that it worked out is what 17 asks
+  pub asked-of-next : {queue : List ℕ} {largest : ℕ} {answer : Bool} →
+      queue ≡ placesOf (oneSlot (queueIn (s .bound) (x .queue)) speed size deadline) → largest ≡ M s →
+      answer ≡ bearable largest (queueIn (s .bound) queue) → answer ≡ bearable (M s) (model.queueOf s next)
+  asked-of-next {queue = queue} queue-is largest-is e =
+      e ∙ ap (λ (m : ℕ). bearable m (queueIn (s .bound) queue)) largest-is ∙
+      ap (λ (l : List ℕ). bearable (M s) (queueIn (s .bound) l))
+      (queue-is ∙ sym (ap (λ (y : model.State). y .queue) (moved-by s x speed size deadline)))
+
+  -- 17: the state stays
+  pub moved-17 : bearable (M s) (model.queueOf s next) ≡ false → movedOrRefused s x speed size deadline ≡ record { number = 17; state = x }
+  moved-17 wrong = moved-by-number (then-fails (bearable (M s) (model.queueOf s next)) 16 _ wrong)
+
+  -- 18: the state stays
+  pub moved-18 : bearable (M s) (model.queueOf s next) ≡ true → 4294967295 < x .energy + energyOf s speed →
+      movedOrRefused s x speed size deadline ≡ record { number = 18; state = x }
+  moved-18 right over =
+      let energy = ap (λ (y : model.State). y .energy) (moved-by s x speed size deadline) in
+      moved-by-number
+      (then-passes (bearable (M s) (model.queueOf s next)) 17 _ right ∙
+      check-false (leb (next .energy) 4294967295) 18 (lt-leb (next .energy) 4294967295 (omega (arith, energy))))
+
+  -- neither: the next state
+  pub moved-0 : bearable (M s) (model.queueOf s next) ≡ true → x .energy + energyOf s speed ≤ 4294967295 →
+      movedOrRefused s x speed size deadline ≡ record { number = 0; state = next }
+  moved-0 right small =
+      let energy = ap (λ (y : model.State). y .energy) (moved-by s x speed size deadline) in
+      moved-by-number
+      (then-passes (bearable (M s) (model.queueOf s next)) 17 _ right ∙
+      check-true (leb (next .energy) 4294967295) 18 (le-leb (next .energy) 4294967295 (omega (arith, energy))))
+
+  -- where the speed is the plan's and the arrival an entry, this is the advance
+  pub moved-advances : (plan : List ℕ) → speed ≡ model.planByte s plan x → model.speedRefusal s plan x ≡ 0 →
+      model.isEntry s size deadline ≡ true → movedOrRefused s x speed size deadline ≡ model.advance s plan x size deadline
+  unfolding movedOrRefused
+  moved-advances plan e passed entry =
+      ap (λ (byte : ℕ). movedOrRefused s x byte size deadline) e ∙
+      sym (advance-by s plan x size deadline (advance-17-or-18 s plan x size deadline passed entry))
