@@ -1,11 +1,12 @@
-"""Checks independent.py: document 01's cases, and the induction against the definition.
+"""Checks independent.py and stepping.py: document 01's cases, and the definition.
 
     python3 tests/test_independent.py
 
 prints `ok`, or stops at the first check that fails. The cases are those of 01's
-"Worked sheet" and of the open points that concern reading, refusing and planning.
-`check_ways` then tries ALL ways of small sheets, as 01 defines them, with queues
-stepped by code of its own; nothing there uses the backward induction.
+"Worked sheet" and of the open points that concern reading, refusing, planning and
+stepping. `check_ways` then tries ALL ways of small sheets, as 01 defines them, with
+queues stepped by code of its own; nothing there uses the backward induction.
+`check_runs` steps small sheets along all lists of entries, which must spend the value.
 """
 
 import random
@@ -17,6 +18,7 @@ from independent import (
     NONE_SPEED, NONE_VALUE, Refused, Sheet, add_job, bearable_queues, checksum,
     memory_fields, plan_sheet, read_number, read_sheet, refuse_sheet, run_slot,
 )
+from stepping import State, advance, padded, speed, start
 
 SHEET_A = Sheet(2, ((0, 0), (1, 1), (2, 4)), 2, ((1, 0, 1), (1, 2, 2)))
 SHEET_A_BYTES = "02 03 00 00 01 01 02 04 02 02 01 00 01 01 02 02"
@@ -265,6 +267,193 @@ def check_ways():
     assert nones > 100 and ties > 100  # the sheets tell the rules apart
 
 
+def at(totals, slot=0, energy=0):
+    """The state with these first totals."""
+    return State(padded(totals), slot, energy)
+
+
+def plan_of(sheet):
+    """The plan bytes of a sheet."""
+    return plan_sheet(sheet)[4]
+
+
+def both(sheet, plan, state, size, deadline):
+    """The number of speed and of advance, which agree; each refused as 01 says."""
+    number, answer = speed(sheet, plan, state)
+    assert number != 0 and answer == 0, (number, answer)
+    assert advance(sheet, plan, state, size, deadline) == (number, state)
+    return number
+
+
+def check_worked_run():
+    own = plan_of(SHEET_A)
+    for plan in own, own + [255, 7]:  # open point 3: "A longer plan is fine"
+        number, state = start(SHEET_A, at((0, 2)))
+        assert (number, state) == (0, at((0, 2), 0, 0))
+        assert speed(SHEET_A, plan, state) == (0, 1)
+        number, state = advance(SHEET_A, plan, state, 2, 2)
+        assert (number, state) == (0, at((1, 3), 1, 1))
+        assert speed(SHEET_A, plan, state) == (0, 1)
+        number, state = advance(SHEET_A, plan, state, 0, 1)
+        assert (number, state) == (0, at((2, 2), 2, 2))
+        assert both(SHEET_A, plan, state, 0, 1) == 14
+
+
+def check_states():
+    plan = plan_of(SHEET_A)
+    largest = 4_294_967_295  # open point 5: "nothing wraps"
+    for totals in [(1, 0), (2, 1), (3, 3), (0, 5), (0, 2, 1), (0, 2, 2, 2, 2, 2),
+                   (0, 0, 0, 0, 0, 1), (0, largest), (largest, largest)]:
+        assert start(SHEET_A, at(totals)) == (13, State()), totals
+        assert both(SHEET_A, plan, at(totals), 0, 1) == 13, totals
+    for slot, energy in (0, 1), (1, 5), (2, 9), (3, 0), (largest, largest):
+        state = at((0, 2), slot, energy)
+        assert both(SHEET_A, plan, state, 0, 1) == 13, state
+        # Open point 10: they "are not looked at".
+        assert start(SHEET_A, state) == (0, at((0, 2)))
+    # The energy that was there counts on.
+    assert advance(SHEET_A, plan, at((1, 3), 1, 4), 0, 1) == (0, at((2, 2), 2, 5))
+    # Open point 9: "falls" is tested up to D, so (0, 2) and then zeros does not fall; with
+    # a D of 6 every position is tested.
+    assert at((0, 2)) == State((0, 2, 0, 0, 0, 0), 0, 0) and State() == at(())
+    assert start(SHEET_A, at((0, 2))) == (0, at((0, 2)))
+    wide = one_job(6, [(0, 0), (1, 1)], 1, (1, 0, 1))
+    assert start(wide, at((0, 0, 0, 0, 0, 6))) == (0, at((0, 0, 0, 0, 0, 6)))
+    for totals in (0, 0, 0, 0, 0, 7), (0, 0, 0, 0, 1):
+        assert start(wide, at(totals)) == (13, State()), totals
+    # Open point 10: "a run can begin from what the last one left".
+    number, last = advance(SHEET_A, plan, at((0, 2), 1, 4), 2, 2)
+    assert (number, last) == (0, at((2, 4), 2, 4))
+    assert start(SHEET_A, last) == (0, at((2, 4)))
+
+
+def check_energies():
+    """Open point 2: 13 uses "the plain greatest over all speeds, 0 where all are 0"."""
+    sheet = one_job(2, [(0, 0), (1, 0)], 2, (1, 0, 1))
+    plan = plan_of(sheet)
+    assert speed(sheet, plan, at((0, 0), 1, 0)) == (0, 0)
+    assert both(sheet, plan, at((0, 0), 1, 1), 0, 1) == 13
+    sheet = one_job(2, [(0, 5), (1, 1)], 2, (1, 0, 1))
+    plan = plan_of(sheet)
+    assert speed(sheet, plan, at((0, 0), 1, 5)) == (0, 1)
+    assert advance(sheet, plan, at((0, 0), 1, 5), 0, 1) == (0, at((0, 0), 2, 6))
+    assert both(sheet, plan, at((0, 0), 1, 6), 0, 1) == 13
+    # At a damaged byte of 0 the energy is that of speed 0.
+    assert advance(sheet, [0] * len(plan), at((0, 0)), 0, 1) == (0, at((0, 0), 1, 5))
+
+
+def check_no_plan():
+    """Open point 9: "A queue that has no plan starts with 0", then 16."""
+    sheet = one_job(2, [(0, 0), (2, 4)], 2, (1, 3, 2))
+    plan = plan_of(sheet)
+    assert start(sheet, at((2, 4), 7, 7)) == (0, at((2, 4)))
+    assert both(sheet, plan, at((2, 4)), 3, 2) == 16
+    # Number 12: from the empty queue too, though the later slot has a plan.
+    sheet = one_job(2, [(0, 0), (1, 1)], 2, (1, 2, 2))
+    plan = plan_of(sheet)
+    assert start(sheet, State()) == (0, State())
+    assert both(sheet, plan, State(), 2, 2) == 16
+    assert advance(sheet, plan, at((0, 0), 1, 0), 2, 2) == (0, at((0, 2), 2, 0))
+
+
+def check_damaged():
+    """Open point 11: 16 is not "inadmissible", and it comes before 15."""
+    state = at((0, 4))
+    slow = [0] * 24
+    assert speed(SHEET_A, slow, state) == (0, 0)
+    assert advance(SHEET_A, slow, state, 0, 1) == (17, state)
+    assert advance(SHEET_A, slow, state, 1, 1) == (15, state)  # would be 17 too
+    for size, deadline in (0, 2), (2, 1), (0, 0), (2, 3), (4_294_967_295, 4_294_967_295):
+        assert advance(SHEET_A, slow, state, size, deadline) == (15, state)
+    for byte in 3, 255:
+        for job in (0, 1), (1, 1):
+            assert both(SHEET_A, [byte] * 24, state, *job) == 16
+    # A sheet speed "below w(1)", and one that is not.
+    assert both(SHEET_A, [1] * 24, at((2, 2)), 0, 1) == 16
+    assert advance(SHEET_A, [2] * 24, at((2, 2)), 2, 2) == (0, at((0, 2), 1, 4))
+    # A number between two speeds is "no sheet speed".
+    assert both(one_job(1, [(0, 0), (2, 1)], 1, (1, 0, 1)), [1] * 3, State(), 0, 1) == 16
+    # Only the byte of the state's slot and queue is looked at; queue (1, 3) is 7.
+    for place in range(24):
+        plan = [255] * 24
+        plan[place] = 2
+        assert (speed(SHEET_A, plan, at((1, 3), 1)) == (0, 2)) == (place == 12 + 7)
+
+
+def check_order():
+    """4 to 10, 11, 13, 14, 16: each refusal before those after it."""
+    plan = plan_of(SHEET_A)
+    bad, end = at((2, 1), 3, 99), at((0, 2), 2, 8)
+    for sheet, number in [
+        (Sheet(), 4),
+        (one_job(2, [(0, 0)], 2, (1, 0, 1)), 5),
+        (one_job(2, [(0, 65_536), (1, 0)], 2, (1, 0, 1)), 6),
+        (one_job(2, [(0, 0), (1, 0)], 0, (1, 0, 1)), 7),
+        (one_job(2, [(0, 0), (1, 0)], 2, (1, 0, 3)), 8),
+        (one_job(2, [(0, 0), (1, 1)], 58, (2, 0, 1)), 9),
+        (one_job(5, [(0, 0), (6, 1)], 1, (1, 0, 1)), 10),
+    ]:
+        assert start(sheet, bad) == (number, State()), number
+        assert both(sheet, [], bad, 0, 1) == number, number
+    # Open points 3 and 16: T times N bytes "whatever the slot, before 13 and 14".
+    for short in plan[:-1], plan[:12], []:
+        for state in at((0, 2)), bad, end:
+            assert both(SHEET_A, short, state, 0, 1) == 11
+    # Open point 16: "14 and speed 0, after 11 and 13; a slot above T is 13".
+    for longer in plan, plan + [3] * 24:
+        assert both(SHEET_A, longer, end, 1, 1) == 14
+        for state in at((0, 2), 2, 9), at((2, 1), 2), at((0, 2, 1), 2), at((0, 2), 3), bad:
+            assert both(SHEET_A, longer, state, 0, 1) == 13, state
+    assert both(SHEET_A, [3] * 24, bad, 1, 1) == 13
+
+
+def energy_of_lists(sheet, plan, state):
+    """Steps along every list of entries from this state to the horizon: the sum of the
+    products of the weights times the energy spent at the end."""
+    if state.slot == sheet.horizon:
+        _, size, deadline = sheet.jobs[0]
+        assert both(sheet, plan, state, size, deadline) == 14
+        return state.energy
+    number, answer = speed(sheet, plan, state)
+    assert number == 0, (sheet, state)
+    totals, total = state.queue[: sheet.bound], 0
+    for weight, size, deadline in sheet.jobs:
+        number, after = advance(sheet, plan, state, size, deadline)
+        moved = step(sheet, totals, answer, size, deadline)
+        spent = state.energy + dict(sheet.speeds)[answer]
+        assert (number, after) == (0, at(moved, state.slot + 1, spent)), (sheet, state)
+        total += weight * energy_of_lists(sheet, plan, after)
+    return total
+
+
+def check_runs():
+    planned = unplanned = 0
+    for sheet in [
+        SHEET_A,
+        Sheet(1, ((0, 3), (1, 2), (4, 7)), 3, ((2, 1, 1), (3, 4, 1), (1, 0, 1))),
+        Sheet(2, ((0, 0), (2, 4)), 2, ((1, 3, 2),)),
+        Sheet(2, ((0, 1), (1, 0), (3, 5)), 3, ((3, 3, 2), (1, 1, 1), (2, 0, 2))),
+        Sheet(3, ((0, 0), (1, 1), (2, 4)), 3, ((2, 2, 3), (1, 1, 2))),
+        Sheet(3, ((0, 2), (2, 1)), 2, ((1, 4, 3), (2, 1, 1))),
+        Sheet(4, ((0, 0), (1, 9)), 3, ((1, 1, 3), (5, 0, 4))),
+        Sheet(6, ((0, 0), (1, 65_535)), 1, ((7, 3, 4), (1, 1, 6))),
+        one_job(2, [(0, 0), (1, 1)], 2, (1, 2, 2)),  # number 12
+    ]:
+        _, _, _, values, plan = plan_sheet(sheet)
+        queues = bearable_queues(sheet.bound, sheet.largest_speed())
+        for queue, value in zip(queues, values):
+            number, state = start(sheet, at(queue, 201, 1))
+            assert (number, state) == (0, at(queue))
+            if value == NONE_VALUE:
+                _, size, deadline = sheet.jobs[0]
+                assert both(sheet, plan, state, size, deadline) == 16
+                unplanned += 1
+            else:
+                assert energy_of_lists(sheet, plan, state) == value, (sheet, queue)
+                planned += 1
+    assert planned > 100 and unplanned > 20, (planned, unplanned)
+
+
 if __name__ == "__main__":
     check_numbers()
     check_reading()
@@ -277,4 +466,11 @@ if __name__ == "__main__":
     check_figure()
     check_checksum()
     check_ways()
+    check_worked_run()
+    check_states()
+    check_energies()
+    check_no_plan()
+    check_damaged()
+    check_order()
+    check_runs()
     print("ok")

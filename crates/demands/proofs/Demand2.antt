@@ -22,6 +22,7 @@ use Rattle.model.proofs.Queues.{number-below, number-place}
 use Rattle.model.proofs.Rooms.{plan-fits}
 use Rattle.planner.specs.declared.calls.PlanAnswer.{PlanAnswer}
 use Rattle.demands.specs.Calls.{Plans}
+use Rattle.demands.specs.Runs.{placeOf}
 use Rattle.demands.proofs.Determined.{answered, plan-is}
 
 -- when a plan is not refused
@@ -59,10 +60,6 @@ module _ {sheet : Sheet} {values₀ plan₀ values bytes : List ℕ} {a : PlanAn
   pub answer-right : planRefusal (counted sheet) (length values₀) (length plan₀) ≡ 0 →
       (a .queues ≡ N (counted sheet)) × FromEmpty (counted sheet) (answered a)
   answer-right e = (planned-filled e .queues, planned-filled e .empty)
-
--- the place of a slot and a queue in a sheet's tables
-abbrev pub placeOf : Sheet → ℕ → Queue → ℕ
-placeOf sheet t w = placeAt (counted sheet) t (numberOf (M (counted sheet)) w)
 
 -- a plan that is not refused, at a bearable queue
 

@@ -5,3 +5,9 @@ pub mod RoundTrip
 pub mod Demand2
 pub mod PairedPlans
 pub mod Worked
+pub mod InOrder
+pub mod SheetInOrder
+pub mod StepperInOrder
+pub mod ReadInOrder
+pub mod Demand1
+pub mod Stepping

@@ -15,7 +15,8 @@ use Rattle.model.proofs.Longer.{bearable-carries}
 use Rattle.planner.specs.declared.calls.PlanAnswer.{PlanAnswer}
 use Rattle.demands.specs.Calls.{Plans}
 use Rattle.demands.specs.Paired.{Paired, NowhereLonger}
-use Rattle.demands.proofs.Demand2.{placeOf, value-right}
+use Rattle.demands.specs.Runs.{placeOf}
+use Rattle.demands.proofs.Demand2.{value-right}
 use Rattle.demands.proofs.Demand3.{largest, demand3}
 
 pub plans-eased : {first second : Sheet} {there back : ℕ → ℕ} → Paired (counted first) (counted second) there back →

@@ -20,6 +20,15 @@ use Rattle.planner.proofs.plan.Kinds as plan-kinds
 use Rattle.planner.proofs.plan.Reads as plan
 use Rattle.planner.proofs.row.Kinds as row-kinds
 use Rattle.planner.proofs.row.Reads as row
+use Rattle.stepper.specs.declared.state.State.{State}
+use Rattle.stepper.specs.declared.state.Stepped.{Stepped}
+use Rattle.stepper.specs.declared.state.Told.{Told}
+use Rattle.stepper.proofs.state.State.start.Kinds as start-kinds
+use Rattle.stepper.proofs.state.State.start.Reads as start
+use Rattle.stepper.proofs.state.State.speed.Kinds as speed-kinds
+use Rattle.stepper.proofs.state.State.speed.Reads as speed
+use Rattle.stepper.proofs.state.State.advance.Kinds as advance-kinds
+use Rattle.stepper.proofs.state.State.advance.Reads as advance
 
 -- "In memory a sheet has room for all entries". The checker sees an array as a list of any length; nine and 32 are what the machine gives
 pub record HasPlaces (sheet : Sheet) : Type 0 where
@@ -67,3 +76,34 @@ pub record Rows (sheet : Sheet) (bytes : List ℕ) (slot : ℕ) (part : List ℕ
   pub answer : resT row-kinds.r lifetimes .Denot
   pub answer-is : now answer ≡ part
   pub contract : row.Post lifetimes lent answer at-exit
+
+-- `start` of this state was given this sheet; it answered this
+pub record Starts (state : State) (sheet : Sheet) (answer : Stepped) : Type 0 where
+  pub lifetimes : Lfts 0
+  pub lent : Dens lifetimes start-kinds.ps
+  pub at-exit : AtExit (endedOf 0 start-kinds.ps start-kinds.r) lifetimes
+  pub state-given : lent .0 ≡ state
+  pub sheet-given : lent .1 .0 ≡ sheet
+  pub contract : start.Post lifetimes lent answer at-exit
+
+-- `speed` of this state was given this sheet and lent this plan; it answered this
+pub record Speeds (state : State) (sheet : Sheet) (bytes : List ℕ) (answer : Told) : Type 0 where
+  pub lifetimes : Lfts 1
+  pub lent : Dens lifetimes speed-kinds.ps
+  pub at-exit : AtExit (endedOf 1 speed-kinds.ps speed-kinds.r) lifetimes
+  pub state-given : lent .0 ≡ state
+  pub sheet-given : lent .1 .0 ≡ sheet
+  pub plan-lent : now (lent .1 .1 .0) ≡ bytes
+  pub contract : speed.Post lifetimes lent answer at-exit
+
+-- `advance` of this state was given this sheet, lent this plan and told of this arrival; it answered this
+pub record Advances (state : State) (sheet : Sheet) (bytes : List ℕ) (size deadline : ℕ) (answer : Stepped) : Type 0 where
+  pub lifetimes : Lfts 1
+  pub lent : Dens lifetimes advance-kinds.ps
+  pub at-exit : AtExit (endedOf 1 advance-kinds.ps advance-kinds.r) lifetimes
+  pub state-given : lent .0 ≡ state
+  pub sheet-given : lent .1 .0 ≡ sheet
+  pub plan-lent : now (lent .1 .1 .0) ≡ bytes
+  pub size-is : lent .1 .1 .1 .0 ≡ size
+  pub deadline-is : lent .1 .1 .1 .1 .0 ≡ deadline
+  pub contract : advance.Post lifetimes lent answer at-exit

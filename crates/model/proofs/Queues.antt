@@ -126,6 +126,10 @@ total-places w (suc i) h = getD-take 6 (w ++ replicate 6 0) i 0 h ∙ getD-zeros
 pub in-places : (w : Queue) → length w ≤ 6 → queueIn (length w) (placesOf w) ≡ w
 in-places w h = take-take (length w) 6 (w ++ replicate 6 0) h ∙ take-append-seam w (replicate 6 0)
 
+-- and so is what stands in the first D of them, where it has D positions
+pub in-first-places : (D : ℕ) (w : Queue) → length w ≡ D → D ≤ 6 → queueIn D (placesOf w) ≡ w
+in-first-places D w e h = subst (λ (n : ℕ). queueIn n (placesOf w) ≡ w) e (in-places w (omega arith))
+
 -- the places of a bearable queue of at most six positions hold it: it stands in the first ones, and the others are zero
 pub places-hold : (M : ℕ) (w : Queue) → length w ≤ 6 → T (bearable M w) → T (bearableIn M (length w) (placesOf w))
 unfolding bearableIn

@@ -15,13 +15,13 @@ use Rattle.process.specs.Ways.{IsFirst}
 use Rattle.process.proofs.Value.{first-step}
 use Rattle.model.specs.Counted.{Counted, sizeAt, deadlineAt, weightAt, onSheet, energyOf, greatestEnergy, M}
 use Rattle.model.specs.Plan.{nextQueue, processOf, IsValueAt, placeAt, rowRefusal}
-use Rattle.model.specs.Queue.{Queue, total, positions, queueIn, placesOf, bearable, bearableIn, oneSlot, numberOf}
+use Rattle.model.specs.Queue.{Queue, total, positions, queueIn, placesOf, bearable, unusedZero, bearableIn, oneSlot, numberOf}
 use Rattle.model.specs.Refusal.{sheetRefusal}
 use Rattle.model.specs.Stepper.{State, queueOf, queueRight, stateRight, zeroState, startRefusal, start, planByte, byteRight, speedRefusal, speed, isEntry, moved, advanceRefusal, advance}
 use Rattle.model.specs.Tests.{check, _then_}
 use Rattle.model.proofs.Admissible.{good-bearable}
 use Rattle.model.proofs.Counted.{on-sheet, energy-of-upto}
-use Rattle.model.proofs.Queues.{length-slot, held-bearable, length-in, length-places, in-places, places-hold}
+use Rattle.model.proofs.Queues.{length-slot, held-bearable, length-in, length-places, in-first-places, places-hold}
 use Rattle.model.proofs.Refusal.{Ranged, accepted, greatest-energy-high}
 use Rattle.model.proofs.Rooms.{row-accepted}
 use Rattle.model.proofs.Stepper.{state-right, start-by, speed-in-parts, speed-by, advance-by}
@@ -55,6 +55,15 @@ module _ (s : Counted) where
       let state = state-right s x t in
       let slot : x .slot ≤ 200 = omega (arith, state .1, ranges .horizon-high) in
       omega (arith, state .2, mul-le-mul slot most, most, energy-of-upto s a on)
+
+  -- a queue that has a value is bearable
+  pub value-bearable : sheetRefusal s ≡ 0 → (t : ℕ) (w : Queue) → HasValue s t w → T (bearable (M s) w)
+  value-bearable e t w v = good-bearable s (accepted s e .ranged .jobs-low) (s .horizon - t) w (v .1 .way) (v .1 .holds)
+
+  -- so that what stands in the places is right where the unused ones are zero
+  pub value-right : sheetRefusal s ≡ 0 → (x : State) → T (unusedZero (s .bound) (x .queue)) → HasValue s 0 (queueOf s x) → T (queueRight s x)
+  unfolding bearableIn
+  value-right e x unused v = and-both (bearable (M s) (queueOf s x)) _ (value-bearable e 0 (queueOf s x) v) unused
 
   -- start from a queue that has a value answers 0, and stepping goes on from there
   pub started : sheetRefusal s ≡ 0 → (x : State) → length (x .queue) ≡ positions → T (queueRight s x) → HasValue s 0 (queueOf s x) →
@@ -157,15 +166,11 @@ module _ (s : Counted) where
 
       -- the next queue stands in its places
       in-next : queueIn (s .bound) (placesOf next) ≡ next
-      in-next =
-          subst (λ (D : ℕ). queueIn D (placesOf next) ≡ next) next-long
-          (in-places next (omega (arith, next-long, ranges .bound-high)))
+      in-next = in-first-places (s .bound) next next-long (ranges .bound-high)
 
-      -- a queue that has a value is bearable
+      -- and is bearable
       next-bearable : T (bearable (M s) next)
-      next-bearable =
-          let v = onward .2 i l in
-          good-bearable s (ranges .jobs-low) (s .horizon - suc t) next (v .1 .way) (v .1 .holds)
+      next-bearable = value-bearable (row-accepted s (length plan) e .0) (suc t) next (onward .2 i l)
 
       -- 15, 17 and 18 pass
       advance-zero : advanceRefusal s plan x (sizeAt s i) (deadlineAt s i) ≡ 0

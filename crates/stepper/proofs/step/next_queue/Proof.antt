@@ -4,7 +4,7 @@ use mathlib.Core.Path.{_≡_, sym, ap, _∙_, subst}
 use native.Mathlib.Omega.{arith}
 use borrow.Author.Needs.{needs}
 use lib.ListN.{length}
-use Rattle.model.proofs.Queues.{held-bearable, length-in, length-run, in-places}
+use Rattle.model.proofs.Queues.{held-bearable, length-in, length-run, in-first-places}
 use Rattle.model.proofs.Refusal.{ranged, M-high}
 use Rattle.model.specs.Counted.{counted, M}
 use Rattle.model.specs.Queue.{Queue, queueIn, placesOf, run, arrive}
@@ -29,7 +29,7 @@ left c =
     let w = run (queueIn (a .sheet .bound) (a .queue)) (a .speed) in
     let same : length w ≡ a .sheet .bound = length-run (queueIn (a .sheet .bound) (a .queue)) (a .speed) ∙ long start in
     ap (queueIn (a .sheet .bound)) (c .after .ensures) ∙
-    subst (λ (D : ℕ). queueIn D (placesOf w) ≡ w) same (in-places w (omega (arith, ranged (counted (a .sheet)) (start .pre .0) .bound-high)))
+    in-first-places (a .sheet .bound) w same (ranged (counted (a .sheet)) (start .pre .0) .bound-high)
 
 cast-bound : tie.Need-cast-bound
 cast-bound c = search needs
