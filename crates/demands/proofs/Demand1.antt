@@ -1,39 +1,47 @@
 -- Demand 1, over the calls' actual contracts: for each call and each number n that it can give, the answer is n exactly when a test of
 -- number n fails and every earlier one passes (the tests in order are the lists of lines of specs/Numbers.antt); and what a refused call
--- answers and leaves. The stepper's calls are in StepperInOrder.antt.
+-- answers and leaves. `Tells` says it for every n at once; the numbers that have one line alone are written out below it.
 use Prim.Native.Nat.{ℕ, zero, suc, _+_, _*_, _-_, _^_, _≤_, _<_}
 use mathlib.Core.Path.{_≡_, refl, sym, ap, _∙_, subst}
-use mathlib.Core.Bool.{Bool, true, false, _&&_}
+use mathlib.Core.Bool.{Bool, true, false, _&&_, not}
 use mathlib.Core.List.{List, [], _∷_, _++_, append-assoc, append-nil}
 use mathlib.Core.Logic.{⊎-elim, _⊎_, inl, inr, _↔_}
 use mathlib.Core.Option.{Option, none, some, Option·getD}
-use native.Mathlib.Nat.{zero-lt-suc, le-trans, suc-mul, mul-le-mul-right}
+use native.Mathlib.Nat.{zero-lt-suc}
 use native.Mathlib.Omega.{arith}
-use borrow.Author.Tests.{ne-eqb, ltb-true, ltb-false}
-use lib.Dec.{leb, ltb}
-use lib.ListN.{length, drop, length-drop}
-use lib.Seq.{length-take-le}
+use borrow.Author.Tests.{ne-eqb, leb-false, ltb-true, ltb-false}
+use lib.Dec.{leb, ltb, eqb}
+use lib.ListN.{length}
 use Rattle.process.proofs.Definite.{value-unique}
 use Rattle.model.specs.Bytes.{sheetBytes, writeRefusal, write}
-use Rattle.model.specs.Counted.{Counted, counted, inMemory, weightAt, zeroSheet, W, G}
-use Rattle.model.specs.Plan.{processOf, IsValueAt, valueIn, placeAt, valuesNeeded, planNeeded, planRefusal, number12, Filled, LeavesBy, rowRefusal, row}
+use Rattle.model.specs.Counted.{Counted, counted, inMemory, weightAt, zeroSheet, W, M, G}
+use Rattle.model.specs.Plan.{processOf, valueIn, valuesNeeded, planNeeded, planRefusal, number12, Filled, LeavesBy, rowRefusal}
 use Rattle.model.specs.Plan as model-plan
-use Rattle.model.specs.Queue.{emptyQueue}
+use Rattle.model.specs.Queue.{emptyQueue, bearable}
 use Rattle.model.specs.Refusal.{boundRight, horizonRight, valueLimit, sheetRefusal, N}
 use Rattle.model.specs.declared.Sheet.{Sheet}
-use Rattle.model.proofs.Refusal.{accepted, N-low}
-use Rattle.model.proofs.Rooms.{row-none, row-past, row-part, row-accepted}
+use Rattle.model.proofs.Rooms.{row-none, row-past, row-accepted}
 use Rattle.model.proofs.RoundTrip.{write-number}
 use Rattle.codec.specs.declared.reader.ReadSheet.{ReadSheet}
 use Rattle.codec.specs.declared.writer.Written.{Written}
 use Rattle.planner.specs.declared.calls.PlanAnswer.{PlanAnswer}
-use Rattle.demands.specs.Calls.{Reads, Writes, Plans, Rows}
-use Rattle.demands.specs.Numbers.{Line, line, AllPass, FailsFirst, Tells, PlanTells, boundLines, speedTableLines, fieldLines, limitLines, nothing, sheetLines, writeLines, planLines, rowLines, speedField, sheetIn, endOf, reading, readLines}
+use Rattle.model.specs.Stepper as model-stepper
+use Rattle.model.specs.Stepper.{queueOf, queueRight, stateRight, planByte, byteRight, isEntry, moved, zeroState}
+use Rattle.model.proofs.Stepper.{speed-accepted, byte-on-sheet, moved-by}
+use Rattle.model.proofs.Stepping.{energy-small}
+use Rattle.stepper.specs.Calls.{stateOf}
+use Rattle.stepper.specs.declared.state.State.{State}
+use Rattle.stepper.specs.declared.state.Stepped.{Stepped}
+use Rattle.stepper.specs.declared.state.Told.{Told}
+use Rattle.demands.specs.Calls.{Reads, Writes, Plans, Rows, Starts, Speeds, Advances}
+use Rattle.demands.specs.Numbers.{Line, line, AllPass, FailsFirst, Tells, PlanTells, boundLines, speedTableLines, fieldLines, limitLines, nothing, sheetLines, writeLines, planLines, rowLines, startLines, speedLines, advanceLines, speedField, sheetIn, endOf, reading, readLines}
 use Rattle.demands.proofs.Demand2.{planned-filled}
-use Rattle.demands.proofs.Determined.{answered, read-is, write-is, plan-is, row-is}
-use Rattle.demands.proofs.InOrder.{Each, Other, each-append, fails-so, all-or-fails, fails-at, tells-at, fails-front, tells-front}
+use Rattle.demands.proofs.Determined.{answered, read-is, write-is, plan-is, row-is, start-is, speed-is, advance-is}
+use Rattle.demands.proofs.InOrder.{Each, Other, all-front, each-append, all-or-fails, fails-at, tells-at, fails-front, tells-front}
+use Rattle.demands.proofs.PlanInOrder.{by-value, by-line, row-there}
 use Rattle.demands.proofs.ReadInOrder.{read-told, read-zero, read-accepted}
-use Rattle.demands.proofs.SheetInOrder.{fields-4, fields-7, limits-9, limits-10, fields-numbers, sheet-numbers, sheet-without, sheet-told, write-told, plan-told, row-told}
+use Rattle.demands.proofs.SheetInOrder.{fields-4, fields-7, limits-9, limits-10, fields-numbers, sheet-without, sheet-told, write-told, plan-told, row-told, row-numbers}
+use Rattle.demands.proofs.StepperInOrder.{speed-without, start-told, speed-told, advance-told, start-number, speed-number, advance-number}
 
 -- a sheet in memory: "A sheet in memory is tested 4 to 10 in that field order by every call". The numbers with one line alone
 
@@ -188,47 +196,6 @@ write-11 {sheet = sheet} call =
 
 -- plan: "Planner, writer and row: 4 to 10, 11", and "12: planned, but the empty queue at slot 0 has none"
 
-module _ (s : Counted) (valuesRoom planRoom : ℕ) where
-  -- 4 to 11 are the planner's lines
-  plan-numbers : (P : ℕ → Type 0) → ((m : ℕ) → 4 ≤ m → m ≤ 11 → P m) → Each P (planLines s valuesRoom planRoom)
-  unfolding planLines
-  plan-numbers P range =
-      each-append P (sheetLines s) _ (sheet-numbers P s (λ m h k. range m h (omega arith))) (range 11 (omega arith) (omega arith), tt)
-
-  -- a slot and queue have one value, none or a number
-  none-or-number : {v : ℕ} → IsValueAt s 0 (emptyQueue (s .bound)) none → IsValueAt s 0 (emptyQueue (s .bound)) (some v) → ⊥
-  none-or-number {v = v} p q =
-      let same = value-unique (processOf s) (s .jobCount) (weightAt s) (s .horizon - 0) (emptyQueue (s .bound)) none (some v) p q in
-      let z : _≡_ {A = ℕ} 0 1 = cc in omega arith
-
-  -- where all pass, the number is by the empty queue's value at slot 0
-  by-value : (number : ℕ) → AllPass (planLines s valuesRoom planRoom) → (r : Option ℕ) → IsValueAt s 0 (emptyQueue (s .bound)) r →
-      number ≡ number12 r → PlanTells s valuesRoom planRoom number
-  by-value number all none right e = record {
-    refused = λ n h other. (λ d. absurd (other (sym d ∙ e)), λ f. absurd (all-or-fails (planLines s valuesRoom planRoom) n all f));
-    twelve = (λ d. (all, right), λ p. e);
-    done = (λ d. absurd (omega arith), λ p. absurd (none-or-number right (p .2)));
-  }
-  by-value number all (some v) right e = record {
-    refused = λ n h other. (λ d. absurd (omega arith), λ f. absurd (all-or-fails (planLines s valuesRoom planRoom) n all f));
-    twelve = (λ d. absurd (omega arith), λ p. absurd (none-or-number (p .1) right));
-    done = (λ d. (all, v, right), λ p. e);
-  }
-
-  -- where a line fails, the number is that of the first that does
-  by-line : (number : ℕ) → 0 < number → Tells number (planLines s valuesRoom planRoom) → PlanTells s valuesRoom planRoom number
-  by-line number h told =
-      let fails = told .refused number h .0 refl in
-      let never : AllPass (planLines s valuesRoom planRoom) → ⊥ = λ all. all-or-fails (planLines s valuesRoom planRoom) number all fails in
-      record {
-        refused = λ n k other. told .refused n k;
-        twelve = (
-          λ d. absurd (fails-so (Other 12) (planLines s valuesRoom planRoom) (plan-numbers (Other 12) (λ m l k e. omega arith)) fails d),
-          λ p. absurd (never (p .0)),
-        );
-        done = (λ d. absurd (omega arith), λ p. absurd (never (p .0)));
-      }
-
 module _ {sheet : Sheet} {values₀ plan₀ values bytes : List ℕ} {a : PlanAnswer} (call : Plans sheet values₀ plan₀ a values bytes) where
   -- the number tells those lines, and 12
   pub plan-tells : PlanTells (counted sheet) (length values₀) (length plan₀) (a .number)
@@ -301,17 +268,6 @@ module _ {sheet : Sheet} {values₀ plan₀ values bytes : List ℕ} {a : PlanAn
 -- row: "A row call answers the part of the caller's plan that belongs to slot t, and an empty part on any refusal or when t is not below T.
 -- N is at least 2, so an empty part always means no row". It gives no number
 
--- a row that is there is not empty
-row-there : (s : Counted) (plan : List ℕ) (t : ℕ) → rowRefusal s (length plan) ≡ 0 → t < s .horizon → row s plan t ≡ [] → ⊥
-row-there s plan t e h empty =
-    let (is-accepted, room) = row-accepted s (length plan) e in
-    let first = placeAt s t 0 in
-    let fits = le-trans (mul-le-mul-right (N s) h) room in
-    let enough : first + N s - first ≤ length (drop first plan) = omega (arith, length-drop first plan, suc-mul t (N s)) in
-    let long = length-take-le (first + N s - first) (drop first plan) enough in
-    let none = ap length (row-part s plan t {first = first} {count = N s} e h refl refl ∙ empty) in
-    omega (arith, N-low s (accepted s is-accepted .ranged))
-
 -- the part is empty exactly when a line fails or the slot is not one of the sheet's
 pub row-empty : {sheet : Sheet} {bytes part : List ℕ} {slot : ℕ} → Rows sheet bytes slot part →
     (part ≡ []) ↔ (((n : ℕ) × FailsFirst (rowLines (counted sheet) (length bytes)) n) ⊎ (sheet .horizon ≤ slot))
@@ -335,3 +291,159 @@ row-empty {sheet = sheet} {bytes = bytes} {part = part} {slot = slot} call =
 
     past : sheet .horizon ≤ slot → part ≡ []
     past h = row-is call ∙ sym (row-past (counted sheet) bytes slot h)
+
+-- start: "Start: 4 to 10, 13"
+
+module _ {state : State} {sheet : Sheet} {a : Stepped} (call : Starts state sheet a) where
+  -- the number tells those lines
+  pub start-tells : Tells (a .number) (startLines (counted sheet) (stateOf state))
+  start-tells =
+      let s = counted sheet in
+      let x = stateOf state in
+      subst (λ (n : ℕ). Tells n (startLines s x)) (sym (start-is call .number-is ∙ start-number s x .0)) (start-told s x)
+
+  -- "A refused start gives an all-zero state"
+  pub start-refused : (a .number ≡ 0 → ⊥) → stateOf (a .state) ≡ zeroState
+  start-refused refused =
+      let promised = start-is call in
+      promised .state-is ∙ start-number (counted sheet) (stateOf state) .1 (λ e. refused (promised .number-is ∙ e))
+
+  -- 4 to 10: the sheet's own number
+  pub start-sheet : (n : ℕ) → 0 < n → n ≤ 10 → (a .number ≡ n) ↔ (sheetRefusal (counted sheet) ≡ n)
+  unfolding startLines
+  start-sheet n h k = tells-front (sheetLines (counted sheet)) _ start-tells (sheet-told (counted sheet)) n h (λ e. omega arith, tt)
+
+  -- "13: the queue falls or is not bearable, an unused position is not zero"
+  pub start-13 : (a .number ≡ 13) ↔ (AllPass (sheetLines (counted sheet)) × (queueRight (counted sheet) (stateOf state) ≡ false))
+  unfolding startLines
+  start-13 = tells-at start-tells (sheetLines (counted sheet)) 13 _ [] refl (omega arith) (sheet-without (counted sheet) 13 (omega arith)) tt
+
+-- speed: "Speed: 4 to 10, 11, 13, 14, 16"
+
+module _ {state : State} {sheet : Sheet} {bytes : List ℕ} {a : Told} (call : Speeds state sheet bytes a) where
+  -- the number tells those lines
+  pub speed-tells : Tells (a .number) (speedLines (counted sheet) bytes (stateOf state))
+  speed-tells =
+      let s = counted sheet in
+      let x = stateOf state in
+      subst (λ (n : ℕ). Tells n (speedLines s bytes x)) (sym (speed-is call .number-is ∙ speed-number s bytes x .0)) (speed-told s bytes x)
+
+  -- "A refused speed is 0"
+  pub speed-refused : (a .number ≡ 0 → ⊥) → a .speed ≡ 0
+  speed-refused refused =
+      let promised = speed-is call in
+      promised .speed-is ∙ speed-number (counted sheet) bytes (stateOf state) .1 (λ e. refused (promised .number-is ∙ e))
+
+  -- 4 to 10: the sheet's own number
+  pub speed-sheet : (n : ℕ) → 0 < n → n ≤ 10 → (a .number ≡ n) ↔ (sheetRefusal (counted sheet) ≡ n)
+  unfolding speedLines rowLines
+  speed-sheet n h k =
+      tells-front (sheetLines (counted sheet)) _ (rw append-assoc at speed-tells) (sheet-told (counted sheet)) n h
+      (λ e. omega arith, (λ e. omega arith, (λ e. omega arith, (λ e. omega arith, tt))))
+
+  -- "11: a lent buffer shorter than needed"
+  pub speed-11 : (a .number ≡ 11) ↔ (AllPass (sheetLines (counted sheet)) × (leb (planNeeded (counted sheet)) (length bytes) ≡ false))
+  unfolding speedLines rowLines
+  speed-11 =
+      tells-at speed-tells (sheetLines (counted sheet)) 11 _ _ (append-assoc (sheetLines (counted sheet)) _ _) (omega arith)
+      (sheet-without (counted sheet) 11 (omega arith)) (λ e. omega arith, (λ e. omega arith, (λ e. omega arith, tt)))
+
+  -- "13: the queue falls or is not bearable, an unused position is not zero, the slot is above T, or the energy is above the slot number
+  -- times the greatest energy"
+  pub speed-13 : (a .number ≡ 13) ↔ (AllPass (rowLines (counted sheet) (length bytes)) × (stateRight (counted sheet) (stateOf state) ≡ false))
+  unfolding speedLines
+  speed-13 =
+      tells-at speed-tells (rowLines (counted sheet) (length bytes)) 13 _ _ refl (omega arith)
+      (row-numbers (Other 13) (counted sheet) (length bytes) (λ m h k e. omega arith)) (λ e. omega arith, (λ e. omega arith, tt))
+
+  -- "14: the state's slot is T"
+  pub speed-14 : (a .number ≡ 14) ↔
+      (AllPass (rowLines (counted sheet) (length bytes) ++ line 13 (stateRight (counted sheet) (stateOf state)) ∷ []) × (not (eqb ((stateOf state) .slot) ((counted sheet) .horizon)) ≡ false))
+  unfolding speedLines
+  speed-14 =
+      tells-at speed-tells (rowLines (counted sheet) (length bytes) ++ _ ∷ []) 14 _ _
+      (sym (append-assoc (rowLines (counted sheet) (length bytes)) _ _)) (omega arith)
+      (each-append (Other 14) (rowLines (counted sheet) (length bytes)) _
+      (row-numbers (Other 14) (counted sheet) (length bytes) (λ m h k e. omega arith)) (λ e. omega arith, tt))
+      (λ e. omega arith, tt)
+
+  -- "16: the plan byte is no sheet speed, or is below w(1)"
+  pub speed-16 : (a .number ≡ 16) ↔
+      (AllPass (rowLines (counted sheet) (length bytes) ++ line 13 (stateRight (counted sheet) (stateOf state)) ∷ line 14 (not (eqb ((stateOf state) .slot) ((counted sheet) .horizon))) ∷ []) ×
+      (byteRight (counted sheet) (stateOf state) (planByte (counted sheet) bytes (stateOf state)) ≡ false))
+  unfolding speedLines
+  speed-16 =
+      tells-at speed-tells (rowLines (counted sheet) (length bytes) ++ _ ∷ _ ∷ []) 16 _ _
+      (sym (append-assoc (rowLines (counted sheet) (length bytes)) _ _)) (omega arith)
+      (each-append (Other 16) (rowLines (counted sheet) (length bytes)) _
+      (row-numbers (Other 16) (counted sheet) (length bytes) (λ m h k e. omega arith)) (λ e. omega arith, (λ e. omega arith, tt)))
+      tt
+
+-- advance: "the same, then 15, 17, 18"
+
+module _ {state : State} {sheet : Sheet} {bytes : List ℕ} {size deadline : ℕ} {a : Stepped} (call : Advances state sheet bytes size deadline a) where
+  -- the number tells those lines
+  pub advance-tells : Tells (a .number) (advanceLines (counted sheet) bytes (stateOf state) size deadline)
+  advance-tells =
+      let s = counted sheet in
+      let x = stateOf state in
+      subst (λ (n : ℕ). Tells n (advanceLines s bytes x size deadline))
+      (sym (advance-is call .number-is ∙ advance-number s bytes x size deadline .0)) (advance-told s bytes x size deadline)
+
+  -- "a refused advance hands back the state it got"
+  pub advance-refused : (a .number ≡ 0 → ⊥) → stateOf (a .state) ≡ stateOf state
+  advance-refused refused =
+      let promised = advance-is call in
+      promised .state-is ∙ advance-number (counted sheet) bytes (stateOf state) size deadline .1 (λ e. refused (promised .number-is ∙ e))
+
+  -- 4 to 14, and 16: "the same" as the speed call
+  pub advance-speed : {b : Told} → Speeds state sheet bytes b → (n : ℕ) → 0 < n → (n ≡ 15 → ⊥) → (n ≡ 17 → ⊥) → (n ≡ 18 → ⊥) →
+      (a .number ≡ n) ↔ (b .number ≡ n)
+  unfolding advanceLines
+  advance-speed told n h no15 no17 no18 =
+      tells-front (speedLines (counted sheet) bytes (stateOf state)) _ advance-tells (speed-tells told) n h
+      (λ e. no15 (sym e), (λ e. no17 (sym e), (λ e. no18 (sym e), tt)))
+
+  -- "15: no entry has this size and deadline"
+  pub advance-15 : (a .number ≡ 15) ↔ (AllPass (speedLines (counted sheet) bytes (stateOf state)) × (isEntry (counted sheet) size deadline ≡ false))
+  unfolding advanceLines
+  advance-15 =
+      tells-at advance-tells (speedLines (counted sheet) bytes (stateOf state)) 15 _ _ refl (omega arith)
+      (speed-without (counted sheet) bytes (stateOf state) 15 (omega arith) (λ e. omega arith)) (λ e. omega arith, (λ e. omega arith, tt))
+
+  -- "17: the next queue would not be bearable"
+  pub advance-17 : (a .number ≡ 17) ↔
+      (AllPass (speedLines (counted sheet) bytes (stateOf state) ++ line 15 (isEntry (counted sheet) size deadline) ∷ []) ×
+      (bearable (M (counted sheet)) (queueOf (counted sheet) (moved (counted sheet) (stateOf state) (planByte (counted sheet) bytes (stateOf state)) size deadline)) ≡ false))
+  unfolding advanceLines
+  advance-17 =
+      tells-at advance-tells (speedLines (counted sheet) bytes (stateOf state) ++ _ ∷ []) 17 _ _
+      (sym (append-assoc (speedLines (counted sheet) bytes (stateOf state)) _ _)) (omega arith)
+      (each-append (Other 17) (speedLines (counted sheet) bytes (stateOf state)) _ (speed-without (counted sheet) bytes (stateOf state) 17 (omega arith) (λ e. omega arith))
+      (λ e. omega arith, tt))
+      (λ e. omega arith, tt)
+
+  -- "18: the new energy total would pass 4,294,967,295"
+  pub advance-18 : (a .number ≡ 18) ↔
+      (AllPass (speedLines (counted sheet) bytes (stateOf state) ++ line 15 (isEntry (counted sheet) size deadline) ∷
+      line 17 (bearable (M (counted sheet)) (queueOf (counted sheet) (moved (counted sheet) (stateOf state) (planByte (counted sheet) bytes (stateOf state)) size deadline))) ∷ []) ×
+      (leb (moved (counted sheet) (stateOf state) (planByte (counted sheet) bytes (stateOf state)) size deadline .energy) 4294967295 ≡ false))
+  unfolding advanceLines
+  advance-18 =
+      tells-at advance-tells (speedLines (counted sheet) bytes (stateOf state) ++ _ ∷ _ ∷ []) 18 _ _
+      (sym (append-assoc (speedLines (counted sheet) bytes (stateOf state)) _ _)) (omega arith)
+      (each-append (Other 18) (speedLines (counted sheet) bytes (stateOf state)) _ (speed-without (counted sheet) bytes (stateOf state) 18 (omega arith) (λ e. omega arith))
+      (λ e. omega arith, (λ e. omega arith, tt)))
+      tt
+
+  -- which no advance ever answers: 13 bounds the state's energy
+  pub advance-never-18 : a .number ≡ 18 → ⊥
+  advance-never-18 e =
+      let s = counted sheet in
+      let x = stateOf state in
+      let told = advance-18 .0 e in
+      let passed = speed-accepted s bytes x (speed-told s bytes x .done .1 (all-front (speedLines s bytes x) _ (told .0))) in
+      let small =
+      energy-small s (row-accepted s (length bytes) (passed .0) .0) x (passed .1) (planByte s bytes x) (byte-on-sheet s x _ (passed .2)) in
+      let same = ap (λ (y : model-stepper.State). y .energy) (moved-by s x (planByte s bytes x) size deadline) in
+      omega (arith, leb-false (moved s x (planByte s bytes x) size deadline .energy) 4294967295 (told .1), small, same)

@@ -13,7 +13,7 @@ use lib.ListN.{length, getD}
 use Rattle.process.specs.Ways.{Way, Good}
 use Rattle.process.proofs.Definite.{value-unique}
 use Rattle.model.specs.Counted.{Counted, counted, weightAt, M}
-use Rattle.model.specs.Plan.{processOf, IsValueAt, IsPlanByte, valueIn, queueAt, placeAt, valuesNeeded, planNeeded, planRefusal, FromEmpty, Filled, LeavesBy}
+use Rattle.model.specs.Plan.{processOf, IsValueAt, IsPlanByte, valueIn, queueAt, valuesNeeded, planNeeded, planRefusal, FromEmpty, Filled, LeavesBy}
 use Rattle.model.specs.Plan as model-plan
 use Rattle.model.specs.Queue.{Queue, bearable, numberOf}
 use Rattle.model.specs.Refusal.{N, sheetRefusal}

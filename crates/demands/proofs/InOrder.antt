@@ -68,6 +68,11 @@ all-or-fails [] n a f = f
 all-or-fails (x ∷ l) n a (inl f) = subst T (f .0) (a .0)
 all-or-fails (x ∷ l) n a (inr f) = all-or-fails l n (a .1) (f .1)
 
+-- where lines and then others pass, the lines do
+pub all-front : (l m : List Line) → AllPass (l ++ m) → AllPass l
+all-front [] m a = tt
+all-front (x ∷ l) m a = (a .0, all-front l m (a .1))
+
 -- exactly when
 
 -- the number of the first that fails is n exactly when a test of number n fails and every earlier one passes

@@ -9,5 +9,6 @@ pub mod InOrder
 pub mod SheetInOrder
 pub mod StepperInOrder
 pub mod ReadInOrder
+pub mod PlanInOrder
 pub mod Demand1
 pub mod Stepping

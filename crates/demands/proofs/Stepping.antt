@@ -1,19 +1,19 @@
 -- Demand 2, its stepping half, over the actual contracts of the planner and the stepper: with any plan bytes that `plan` leaves, from any
 -- queue that has a value at slot 0, along any list of the sheet's entries, start and every speed and advance before the horizon answer 0
 -- (`never-refused`); at the horizon they answer 14 (`speed-at-end`, `advance-at-end`).
-use Prim.Native.Nat.{ℕ, zero, suc, _+_, _-_, _≤_, _<_, zero-le}
-use mathlib.Core.Path.{_≡_, refl, sym, ap, _∙_, subst}
-use mathlib.Core.List.{List, [], _∷_}
+use Prim.Native.Nat.{ℕ, zero, suc, _-_, _≤_, _<_}
+use mathlib.Core.Path.{_≡_, sym, ap, _∙_, subst}
+use mathlib.Core.List.{List}
 use mathlib.Core.Option.{Option, some}
-use native.Mathlib.Nat.{le-refl, le-trans, le-of-lt, le-of-suc-le-suc, not-suc-le-zero}
+use native.Mathlib.Nat.{le-refl, le-trans, le-of-lt}
 use native.Mathlib.Omega.{arith}
 use lib.Dec.{T}
 use lib.ListN.{length, getD}
 use Rattle.process.specs.Sums.{sum}
 use Rattle.process.proofs.Definite.{value-unique}
 use Rattle.model.specs.Counted.{Counted, counted, sizeAt, deadlineAt, weightAt, energyOf, M}
-use Rattle.model.specs.Plan.{processOf, IsValueAt, IsPlanByte, valueIn, planRefusal, rowRefusal}
-use Rattle.model.specs.Queue.{Queue, bearable, positions, queueIn, placesOf, oneSlot, unusedZero}
+use Rattle.model.specs.Plan.{processOf, IsPlanByte, valueIn, planRefusal, rowRefusal}
+use Rattle.model.specs.Queue.{Queue, bearable, positions, queueIn, oneSlot, unusedZero}
 use Rattle.model.specs.Refusal.{sheetRefusal}
 use Rattle.model.specs.Stepper as model
 use Rattle.model.specs.declared.Sheet.{Sheet}
@@ -28,8 +28,8 @@ use Rattle.stepper.specs.Calls.{stateOf}
 use Rattle.stepper.specs.declared.state.State.{State}
 use Rattle.stepper.specs.declared.state.Stepped.{Stepped}
 use Rattle.stepper.specs.declared.state.Told.{Told}
-use Rattle.demands.specs.Calls.{Plans, Starts, Speeds, Advances}
-use Rattle.demands.specs.Runs.{placeOf, stateBefore, queueBefore, Run, Stands, Steps, NeverRefused}
+use Rattle.demands.specs.Calls.{Plans, Speeds, Advances}
+use Rattle.demands.specs.Runs.{placeOf, stateBefore, Run, Stands, Steps, NeverRefused}
 use Rattle.demands.proofs.Demand2.{planned-filled, value-right, byte-right}
 use Rattle.demands.proofs.Determined.{start-is, speed-is, advance-is}
 

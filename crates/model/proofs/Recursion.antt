@@ -5,7 +5,7 @@ use mathlib.Core.Path.{_≡_, refl, ap, _∙_, subst}
 use mathlib.Core.Option.{Option, none, some}
 use native.Mathlib.Nat.{add-zero, le-refl, le-trans}
 use lib.Dec.{leb}
-use Rattle.process.specs.Recursion.{plus, times, sumOrNone, only, better, best, worth, priced, choice, value}
+use Rattle.process.specs.Recursion.{plus, times, sumOrNone, only, better, best, worth, priced, choice}
 use Rattle.process.specs.Sums.{sum}
 use Rattle.process.specs.Ways.{Among}
 use Rattle.process.proofs.Eased.{value-bounded}

@@ -3,13 +3,13 @@
 -- and not the stepper's definitions.
 use Prim.Native.Nat.{ℕ, suc, _+_, _*_, _-_, _≤_, _<_, zero-le}
 use mathlib.Core.Path.{_≡_, refl, sym, ap, _∙_, subst}
-use mathlib.Core.Bool.{cond, not, _&&_}
+use mathlib.Core.Bool.{not, _&&_}
 use mathlib.Core.List.{List}
 use mathlib.Core.Option.{some}
 use native.Mathlib.Nat.{le-refl, le-of-lt, mul-le-mul}
 use native.Mathlib.Omega.{arith}
 use borrow.Author.Tests.{eq-eqb, ne-eqb}
-use lib.Dec.{T, leb, eqb, leb→le, le→leb, eqb-refl}
+use lib.Dec.{T, leb, eqb, le→leb, eqb-refl}
 use lib.ListN.{length, getD}
 use Rattle.process.specs.Ways.{IsFirst}
 use Rattle.process.proofs.Value.{first-step}
@@ -17,7 +17,7 @@ use Rattle.model.specs.Counted.{Counted, sizeAt, deadlineAt, weightAt, o
 use Rattle.model.specs.Plan.{nextQueue, processOf, IsValueAt, placeAt, rowRefusal}
 use Rattle.model.specs.Queue.{Queue, total, positions, queueIn, placesOf, bearable, unusedZero, bearableIn, oneSlot, numberOf}
 use Rattle.model.specs.Refusal.{sheetRefusal}
-use Rattle.model.specs.Stepper.{State, queueOf, queueRight, stateRight, zeroState, startRefusal, start, planByte, byteRight, speedRefusal, speed, isEntry, moved, advanceRefusal, advance}
+use Rattle.model.specs.Stepper.{State, queueOf, queueRight, stateRight, startRefusal, start, planByte, byteRight, speedRefusal, speed, isEntry, moved, advanceRefusal, advance}
 use Rattle.model.specs.Tests.{check, _then_}
 use Rattle.model.proofs.Admissible.{good-bearable}
 use Rattle.model.proofs.Counted.{on-sheet, energy-of-upto}
@@ -25,7 +25,7 @@ use Rattle.model.proofs.Queues.{length-slot, held-bearable, length-in, 
 use Rattle.model.proofs.Refusal.{Ranged, accepted, greatest-energy-high}
 use Rattle.model.proofs.Rooms.{row-accepted}
 use Rattle.model.proofs.Stepper.{state-right, start-by, speed-in-parts, speed-by, advance-by}
-use Rattle.model.proofs.Tests.{and-left, and-right, and-both, anywhere-one, check-passes, then-both, then-on, then-passes, then-holds, then-fails, then-stops, then-then}
+use Rattle.model.proofs.Tests.{and-both, anywhere-one, check-passes, then-both, then-on, then-passes, then-holds, then-fails, then-stops}
 
 -- a queue has a value at slot t: some way from there is good
 abbrev pub HasValue : Counted → ℕ → Queue → Type 0

@@ -8,7 +8,7 @@ use queues::after;
 use queues::queue_at;
 use value::Value;
 ghost use mathlib.Core.Path.{_≡_};
-ghost use Prim.Native.Nat.{ℕ, suc, pred, _+_, _*_, _≤_, _<_};
+ghost use Prim.Native.Nat.{pred, _+_, _*_, _≤_, _<_};
 ghost use lib.Dec.{T};
 ghost use lib.ListN.{length};
 ghost use Rattle.model.specs.Counted.{counted};

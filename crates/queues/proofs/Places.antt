@@ -3,13 +3,13 @@
 use Prim.Native.Nat.{ℕ, zero, suc, _+_, _*_, _-_, min, _≤_, _<_}
 use mathlib.Core.Path.{_≡_, refl, sym, ap, _∙_}
 use mathlib.Core.Bool.{Bool, true, false, cond, not, _&&_}
-use mathlib.Core.List.{List, [], _∷_, _++_}
+use mathlib.Core.List.{List, [], _∷_}
 use native.Mathlib.Numerals.{add-one}
 use native.Mathlib.Omega.{arith}
 use borrow.Author.Tests.{ltb-true, ltb-false, le-leb, lt-leb, eq-eqb, ne-eqb, not-true, not-false}
 use lib.Dec.{leb, ltb, eqb}
-use lib.ListN.{length, getD, replicate, length-append, length-take, length-replicate}
-use lib.Seq.{length-take-le, getD-take, take-take, take-append-seam, ext-getD}
+use lib.ListN.{length, getD, length-take}
+use lib.Seq.{getD-take, ext-getD}
 use Rattle.model.specs.Tests.{everywhere}
 use Rattle.model.specs.Queue.{Queue, total, queueIn, placesOf, bearableAt, bearable, unusedAt, unusedZero, bearableIn, run, arrive}
 use Rattle.model.proofs.Tests.{everywhere-fails, everywhere-more, everywhere-same}

@@ -1,5 +1,4 @@
 -- `next_queue` meets its contract: the queue after the slot stands in its places, and no total of it is above 48, so that a size fits.
-use Prim.Native.Nat.{ℕ, _≤_}
 use mathlib.Core.Path.{_≡_, sym, ap, _∙_, subst}
 use native.Mathlib.Omega.{arith}
 use borrow.Author.Needs.{needs}
