@@ -70,4 +70,3 @@ row-there s plan t e h empty =
     let long = length-take-le (first + N s - first) (drop first plan) enough in
     let none = ap length (row-part s plan t {first = first} {count = N s} e h refl refl ∙ empty) in
     omega (arith, N-low s (accepted s is-accepted .ranged))
-

@@ -26,7 +26,8 @@ pub fn plan_byte(counts: &[u32; 2352], sheet: Sheet, plan: &[u8], slot: u32, que
     let greatest = greatest_of(sheet);
     let queues = queues_of(counts, sheet);
     let here = number(counts, greatest.speed, sheet.bound as usize, queue);
-    plan[place(queues, slot, here)] as u32
+    let row = place(queues, slot, 0);
+    plan[row + here] as u32
 }
 
 // The place of a speed on the sheet; the count of speeds where it is not there.

@@ -48,6 +48,10 @@ pub fn moved(sheet: Sheet, state: State, speed: u32, size: u32, deadline: u32) -
 {
     let waiting = state.queue;
     let queue = next_queue(sheet, waiting, speed, size, deadline);
+    let slot = state.slot;
+    let mut next = state;
+    next.queue = queue;
+    next.slot = slot + 1;
     let greatest = greatest_of(sheet);
     if !finishable(greatest.speed, sheet.bound as usize, queue) {
         return Stepped { number: 17, state };
@@ -56,12 +60,9 @@ pub fn moved(sheet: Sheet, state: State, speed: u32, size: u32, deadline: u32) -
     if MOST_ENERGY - state.energy < spent {
         return Stepped { number: 18, state };
     }
+    next.energy = state.energy + spent;
     Stepped {
         number: 0,
-        state: State {
-            queue,
-            slot: state.slot + 1,
-            energy: state.energy + spent,
-        },
+        state: next,
     }
 }

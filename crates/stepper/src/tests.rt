@@ -32,7 +32,9 @@ pub fn state_right(sheet: Sheet, state: State) -> bool
         return false;
     }
     let greatest = greatest_of(sheet);
-    state.energy <= state.slot * greatest.energy
+    let most = state.slot * greatest.energy;
+    let energy = state.energy;
+    energy <= most
 }
 
 // 16: the plan byte is a speed of the sheet and not below w(1).

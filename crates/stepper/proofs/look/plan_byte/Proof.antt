@@ -71,27 +71,37 @@ place-requires c κs =
     let right = accepted (counted (start .args .sheet)) (passed start) in (
       omega (arith, c .before .before .queues-of .ensures, right .queues-high),
       omega (arith, start .pre .2, right .ranged .horizon-high),
-      omega (arith, below c, right .queues-high),
+      omega (arith, c .before .before .queues-of .ensures, right .queues-high),
     )
 
 -- so that the place worked out is the model's
 at-place : (c : tie.After-place) →
     let a = c .before .before .before .before .before .before .args in
-    c .place .result ≡ placeAt (counted (a .sheet)) (a .slot) (c .before .number .result)
+    c .place .result + c .before .number .result ≡ placeAt (counted (a .sheet)) (a .slot) (c .before .number .result)
 at-place c =
     let a = c .before .before .before .before .before .before .args in
-    c .place .ensures ∙ ap (λ (n : ℕ). a .slot * n + c .before .number .result) (c .before .before .before .queues-of .ensures)
+    let row = ap (λ (n : ℕ). a .slot * n + 0) (c .before .before .before .queues-of .ensures) in
+    omega (arith, c .place .ensures, row)
+
+-- and within the plan
+inside : (c : tie.After-place) →
+    c .place .result + c .before .number .result < length (c .before .before .before .before .before .before .args .plan .now)
+inside c =
+    let start = c .before .before .before .before .before .before in
+    let a = start .args in
+    let within = place-within (counted (a .sheet)) (length (a .plan .now)) (a .slot) (c .before .number .result)
+    (start .pre .1) (start .pre .2) (below (c .before)) in
+    omega (arith, within, at-place c)
+
+add-result : tie.Need-add-result
+add-result c = omega (arith, inside c)
 
 shared-slice-read-result : tie.Need-shared-slice-read-result
 shared-slice-read-result c =
-    let start = c .before .before .before .before .before .before .before in
-    let a = start .args in
-    let inside = place-within (counted (a .sheet)) (length (a .plan .now)) (a .slot) (c .before .before .number .result)
-    (start .pre .1) (start .pre .2) (below (c .before .before)) in
-    omega (arith, inside, at-place (c .before))
+    inside (c .before)
 
 cast-result : tie.Need-cast-result
-cast-result c = omega (arith, c .shared-slice-known2 .given (c .before .place .result))
+cast-result c = omega (arith, c .shared-slice-known2 .given (c .before .place .result + c .before .before .number .result))
 
 returns : tie.Need-returns
 returns c =
@@ -109,6 +119,7 @@ plan-byte-spec =
     cast-number
     number-requires
     place-requires
+    add-result
     shared-slice-read-result
     cast-result
     returns)

@@ -32,6 +32,12 @@ next-queue-requires c κs =
     let s = counted (start .args .sheet) in
     (start .pre .0, state-right s (stateOf (start .args .state)) (start .pre .1) .0, start .pre .3)
 
+add-next : tie.Need-add-next
+add-next c =
+    let start = c .before .before in
+    let s = counted (start .args .sheet) in
+    omega (arith, state-right s (stateOf (start .args .state)) (start .pre .1) .1, ranged s (start .pre .0) .horizon-high)
+
 greatest-of-requires : tie.Need-greatest-of-requires
 greatest-of-requires c κs = search needs
 
@@ -65,18 +71,12 @@ returns-2 c =
     (moved-18 (counted (a .sheet)) (stateOf (a .state)) (a .speed) (a .size) (a .deadline)
     (passed-by (asked (tested .before)) (tested .if1 .left)) (omega (arith, c .if2 .taken, c .before .before .energy-of .ensures))) refl
 
-add-t13 : tie.Need-add-t13
-add-t13 c =
-    let start = c .before .before .before .before .before .before .before .before .before .before in
-    let s = counted (start .args .sheet) in
-    omega (arith, state-right s (stateOf (start .args .state)) (start .pre .1) .1, ranged s (start .pre .0) .horizon-high)
-
-add-t14 : tie.Need-add-t14
-add-t14 c = search needs
+add-next-2 : tie.Need-add-next-2
+add-next-2 c = search needs
 
 returns-3 : tie.Need-returns-3
 returns-3 c =
-    let spent = c .before .before .before .before in
+    let spent = c .before .before .before in
     let tested = spent .before in
     let a = tested .before .before .before .before .before .before .args in
     let s = counted (a .sheet) in
@@ -85,7 +85,7 @@ returns-3 c =
     let energy-is = ap (λ (n : ℕ). a .state .energy + n) (spent .energy-of .ensures) in
     stepped-as _
     (moved-0 s x (a .speed) (a .size) (a .deadline) (passed-by (asked (tested .before)) (tested .if1 .left))
-    (omega (arith, c .before .before .if2 .left, spent .energy-of .ensures)))
+    (omega (arith, c .before .if2 .left, spent .energy-of .ensures)))
     ((λ i. record { queue = queue-is i; slot = add-one (a .state .slot) i; energy = energy-is i }) ∙
     sym (moved-by s x (a .speed) (a .size) (a .deadline)))
 
@@ -94,6 +94,7 @@ moved-spec =
     tie.close
     (tie.spec
     next-queue-requires
+    add-next
     greatest-of-requires
     cast-finishable
     finishable-requires
@@ -101,6 +102,5 @@ moved-spec =
     energy-of-requires
     sub-if2
     returns-2
-    add-t13
-    add-t14
+    add-next-2
     returns-3)

@@ -29,8 +29,8 @@ returns-2 c =
 greatest-of-requires : tie.Need-greatest-of-requires
 greatest-of-requires c κs = search needs
 
-mul-result : tie.Need-mul-result
-mul-result c =
+mul-most : tie.Need-mul-most
+mul-most c =
     let start = c .before .before .before .before .before .before .before .before in
     let s = counted (start .args .sheet) in
     let right = ranged s (start .pre) in
@@ -44,9 +44,9 @@ mul-result c =
 
 returns-3 : tie.Need-returns-3
 returns-3 c =
-    let a = c .before .before .before .before .before .before .before .before .before .args in
-    let tested = c .before .before .before .before in
-    ap (λ (most : ℕ). leb (a .state .energy) (a .state .slot * most)) (c .before .before .before .greatest-of .ensures .1) ∙
+    let a = c .before .before .before .before .before .before .before .before .args in
+    let tested = c .before .before .before in
+    ap (λ (most : ℕ). leb (a .state .energy) (a .state .slot * most)) (c .before .before .greatest-of .ensures .1) ∙
     sym
     (energy-decides (counted (a .sheet)) (stateOf (a .state))
     (passed-by (tested .before .before .before .before .queue-right .ensures) (tested .before .before .before .if1 .left)) (tested .if2 .left))
@@ -54,4 +54,4 @@ returns-3 c =
 pub state-right-spec : {M : Type 1} → statement M
 state-right-spec =
     tie.close
-    (tie.spec queue-right-requires returns returns-2 greatest-of-requires mul-result returns-3)
+    (tie.spec queue-right-requires returns returns-2 greatest-of-requires mul-most returns-3)
