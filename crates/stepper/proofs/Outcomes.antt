@@ -6,7 +6,7 @@ use mathlib.Core.List.{List}
 use native.Mathlib.Omega.{arith}
 use borrow.Author.Tests.{le-leb, lt-leb, ne-eqb}
 use lib.Dec.{leb, eqb}
-use Rattle.model.proofs.Stepper.{moved-by, advance-by, advance-17-or-18}
+use Rattle.model.proofs.Stepper.{speed-by, moved-by, advance-by, advance-17-or-18}
 use Rattle.model.proofs.Tests.{check-true, check-false, then-passes, then-fails}
 use Rattle.model.specs.Counted.{Counted, energyOf, M}
 use Rattle.model.specs.Queue.{queueIn, placesOf, bearable, oneSlot}
@@ -22,14 +22,26 @@ pub stepped-as : {said : model.Stepped} {number : ℕ} {given : model.State} (st
 stepped-as state e same =
     record { number-is = sym (ap (λ (r : model.Stepped). r .number) e); state-is = same ∙ sym (ap (λ (r : model.Stepped). r .state) e) }
 
--- a speed call, by what the model says
-pub told-as : {said : model.Told} {number given speed : ℕ} → said ≡ record { number = number; speed = given } → speed ≡ given →
-    IsTold said number speed
-told-as e same = record { number-is = sym (ap (λ (r : model.Told). r .number) e); speed-is = same ∙ sym (ap (λ (r : model.Told). r .speed) e) }
-
 -- where a number is not 0, what a refusal gives is given
 pub refused-gives : {A : Type 0} {number : ℕ} (done refused : A) → (number ≡ 0 → ⊥) → refused ≡ cond (eqb number 0) done refused
 refused-gives {number = number} done refused some = sym (ap (λ (b : Bool). cond b done refused) (ne-eqb number 0 some))
+
+-- a speed call that is refused answers the number and 0
+pub told-refused : (s : Counted) (plan : List ℕ) (x : model.State) {refusal number speed : ℕ} → model.speedRefusal s plan x ≡ refusal →
+    (refusal ≡ 0 → ⊥) → (number ≡ refusal) × (speed ≡ 0) → IsTold (model.speed s plan x) number speed
+told-refused s plan x e some answer =
+    let said = speed-by s plan x e in
+    record {
+      number-is = answer .0 ∙ sym (ap (λ (r : model.Told). r .number) said);
+      speed-is = answer .1 ∙ refused-gives (model.planByte s plan x) 0 some ∙ sym (ap (λ (r : model.Told). r .speed) said);
+    }
+
+-- one that is not refused answers 0 and the plan byte
+pub told-done : (s : Counted) (plan : List ℕ) (x : model.State) {speed : ℕ} → model.speedRefusal s plan x ≡ 0 → speed ≡ model.planByte s plan x →
+    IsTold (model.speed s plan x) 0 speed
+told-done s plan x e same =
+    let said = speed-by s plan x e in
+    record { number-is = sym (ap (λ (r : model.Told). r .number) said); speed-is = same ∙ sym (ap (λ (r : model.Told). r .speed) said) }
 
 -- what is left of an advance
 

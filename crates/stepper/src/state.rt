@@ -71,27 +71,18 @@ impl State {
         let counts = table();
         let number = row_refusal(&counts, sheet, plan.len());
         if number != 0 {
-            return Told { number, speed: 0 };
+            return refused(number);
         }
         if !state_right(sheet, self) {
-            return Told {
-                number: 13,
-                speed: 0,
-            };
+            return refused(13);
         }
         if self.slot == sheet.horizon {
-            return Told {
-                number: 14,
-                speed: 0,
-            };
+            return refused(14);
         }
         let queue = self.queue;
         let byte = plan_byte(&counts, sheet, plan, self.slot, queue);
         if !byte_right(sheet, self, byte) {
-            return Told {
-                number: 16,
-                speed: 0,
-            };
+            return refused(16);
         }
         Told {
             number: 0,
@@ -129,4 +120,11 @@ fn zero_state() -> State
         slot: 0,
         energy: 0,
     }
+}
+
+// What a refused speed call answers.
+fn refused(number: u32) -> Told
+    ensures { λ r. ⌜ (r .number ≡ number) × (r .speed ≡ 0) ⌝ }
+{
+    Told { number, speed: 0 }
 }

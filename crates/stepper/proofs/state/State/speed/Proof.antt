@@ -8,7 +8,7 @@ use lib.Dec.{T}
 use lib.ListN.{length}
 use Rattle.model.proofs.Refusal.{fields-right}
 use Rattle.model.proofs.Rooms.{row-accepted}
-use Rattle.model.proofs.Stepper.{state-right, speed-by, speed-refused, speed-13, speed-14, speed-16-or-0, byte-at}
+use Rattle.model.proofs.Stepper.{state-right, speed-refused, speed-13, speed-14, speed-16-or-0, byte-at}
 use Rattle.model.proofs.Tests.{check-true, check-false}
 use Rattle.model.specs.Counted.{counted}
 use Rattle.model.specs.Plan.{rowRefusal}
@@ -16,7 +16,7 @@ use Rattle.model.specs.Refusal.{fieldsRefusal}
 use Rattle.model.specs.Stepper.{stateRight, byteRight, planByte, speedRefusal}
 use Rattle.model.specs.Tests.{check}
 use Rattle.sheets.proofs.Answers.{passed-by, failed-by}
-use Rattle.stepper.proofs.Outcomes.{told-as, refused-gives}
+use Rattle.stepper.proofs.Outcomes.{told-refused, told-done}
 use Rattle.stepper.proofs.state.State.speed.Statement.{statement}
 use Rattle.stepper.proofs.state.State.speed.Tie as tie
 use Rattle.stepper.specs.Calls.{stateOf}
@@ -53,35 +53,43 @@ table-requires c κs = search needs
 row-refusal-requires : tie.Need-row-refusal-requires
 row-refusal-requires c κs = search needs
 
+refused-requires : tie.Need-refused-requires
+refused-requires c κs = tt
+
 returns : tie.Need-returns
 returns c =
-    let a = c .before .before .before .before .before .args in
+    let a = c .before .before .before .before .before .before .args in
     let s = counted (a .sheet) in
-    told-as (speed-by s (a .plan .now) (stateOf (a .self)) (speed-refused s (a .plan .now) (stateOf (a .self)) (c .before .row-refusal .ensures) (c .if1 .taken)))
-    (refused-gives (planByte s (a .plan .now) (stateOf (a .self))) 0 (c .if1 .taken))
+    let some = c .before .if1 .taken in
+    told-refused s (a .plan .now) (stateOf (a .self))
+    (speed-refused s (a .plan .now) (stateOf (a .self)) (c .before .before .row-refusal .ensures) some) some (c .refused .ensures)
 
 state-right-requires : tie.Need-state-right-requires
 state-right-requires c κs = fields c
 
+refused-requires-2 : tie.Need-refused-requires-2
+refused-requires-2 c κs = tt
+
 returns-2 : tie.Need-returns-2
 returns-2 c =
-    let told = c .before in
+    let told = c .before .before in
     let a = told .before .before .before .before .before .before .args in
     let s = counted (a .sheet) in
-    told-as
-    (speed-by s (a .plan .now) (stateOf (a .self))
-    (speed-13 s (a .plan .now) (stateOf (a .self)) (passed (told .before)) (failed-by (told .state-right .ensures) (c .if2 .taken))))
-    refl
+    told-refused s (a .plan .now) (stateOf (a .self))
+    (speed-13 s (a .plan .now) (stateOf (a .self)) (passed (told .before)) (failed-by (told .state-right .ensures) (c .before .if2 .taken)))
+    (λ e. omega arith) (c .refused2 .ensures)
+
+refused-requires-3 : tie.Need-refused-requires-3
+refused-requires-3 c κs = tt
 
 returns-3 : tie.Need-returns-3
 returns-3 c =
-    let told = c .before .before .before in
+    let told = c .before .before .before .before in
     let a = told .before .before .before .before .before .before .before .args in
     let s = counted (a .sheet) in
-    told-as
-    (speed-by s (a .plan .now) (stateOf (a .self))
-    (speed-14 s (a .plan .now) (stateOf (a .self)) (passed (told .before .before)) (right told) (c .if3 .taken)))
-    refl
+    told-refused s (a .plan .now) (stateOf (a .self))
+    (speed-14 s (a .plan .now) (stateOf (a .self)) (passed (told .before .before)) (right told) (c .before .if3 .taken))
+    (λ e. omega arith) (c .refused3 .ensures)
 
 plan-byte-requires : tie.Need-plan-byte-requires
 plan-byte-requires c κs =
@@ -109,17 +117,24 @@ number c =
     speed-16-or-0 s (a .plan .now) x (passed accepted) (right told) (later .if3 .left) ∙
     ap (λ (b : Bool). check b 16) (ap (byteRight s x) (sym (byte c)) ∙ sym (c .byte-right .ensures))
 
+refused-requires-4 : tie.Need-refused-requires-4
+refused-requires-4 c κs = tt
+
 returns-4 : tie.Need-returns-4
 returns-4 c =
-    let a = c .before .before .before .before .before .before .before .before .before .before .before .before .before .before .before .args in
+    let asked = c .before .before in
+    let a = asked .before .before .before .before .before .before .before .before .before .before .before .before .before .before .args in
     let s = counted (a .sheet) in
-    told-as (speed-by s (a .plan .now) (stateOf (a .self)) (number (c .before) ∙ check-false (c .before .byte-right .result) 16 (failed-by refl (c .if4 .taken)))) refl
+    told-refused s (a .plan .now) (stateOf (a .self))
+    (number asked ∙ check-false (asked .byte-right .result) 16 (failed-by refl (c .before .if4 .taken))) (λ e. omega arith) (c .refused4 .ensures)
 
 returns-5 : tie.Need-returns-5
 returns-5 c =
-    let a = c .before .before .before .before .before .before .before .before .before .before .before .before .before .before .before .args in
+    let asked = c .before in
+    let a = asked .before .before .before .before .before .before .before .before .before .before .before .before .before .before .args in
     let s = counted (a .sheet) in
-    told-as (speed-by s (a .plan .now) (stateOf (a .self)) (number (c .before) ∙ check-true (c .before .byte-right .result) 16 (passed-by refl (c .if4 .left)))) (byte (c .before))
+    told-done s (a .plan .now) (stateOf (a .self))
+    (number asked ∙ check-true (asked .byte-right .result) 16 (passed-by refl (c .if4 .left))) (byte asked)
 
 pub speed-spec : {M : Type 1} → statement M
 speed-spec =
@@ -127,11 +142,15 @@ speed-spec =
     (tie.spec
     table-requires
     row-refusal-requires
+    refused-requires
     returns
     state-right-requires
+    refused-requires-2
     returns-2
+    refused-requires-3
     returns-3
     plan-byte-requires
     byte-right-requires
+    refused-requires-4
     returns-4
     returns-5)
