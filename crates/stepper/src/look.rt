@@ -61,13 +61,13 @@ pub fn is_entry(sheet: Sheet, size: u32, deadline: u32) -> bool
     requires { ⌜ fieldsRefusal (counted sheet) ≡ 0 ⌝ }
     ensures { λ r. ⌜ r ≡ isEntry (counted sheet) size deadline ⌝ }
 {
-    let mut place = 0;
-    while place < sheet.job_count {
-        let one = sheet.jobs[place as usize];
+    let mut entry = 0;
+    while entry < sheet.job_count {
+        let one = sheet.jobs[entry as usize];
         if is_job(one, size, deadline) {
             return true;
         }
-        place += 1;
+        entry += 1;
     }
     false
 }

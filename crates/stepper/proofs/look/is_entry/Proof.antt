@@ -1,5 +1,5 @@
 -- `is_entry` meets its contract. The loop's invariant: no entry passed has this size and deadline.
-use Prim.Native.Nat.{_-_, _≤_}
+use Prim.Native.Nat.{_-_, _≤_, _<_}
 use mathlib.Core.Bool.{false}
 use mathlib.Core.Path.{_≡_, refl}
 use native.Mathlib.Omega.{arith}
@@ -11,10 +11,16 @@ use Rattle.stepper.proofs.look.is_entry.Statement.{statement}
 use Rattle.stepper.proofs.look.is_entry.Tie as tie
 
 abbrev Inv-loop : tie.InvT-loop
-Inv-loop size deadline sheet place₀ place = (anywhere (isArrival sheet size deadline) place ≡ false) × (place ≤ sheet .«job_count»)
+Inv-loop size deadline sheet entry₀ entry = (anywhere (isArrival sheet size deadline) entry ≡ false) × (entry ≤ sheet .«job_count»)
 
 abbrev μ-loop : tie.MeasureT-loop
-μ-loop size deadline sheet place₀ place = sheet .«job_count» - place
+μ-loop size deadline sheet entry₀ entry = sheet .«job_count» - entry
+
+-- in the loop there is an entry at the place
+below : (c : tie.In-loop Inv-loop μ-loop) → c .before .loop .entry < c .before .before .args .t1 .«job_count»
+below c =
+    let start = c .before .before in
+    omega (arith, c .loop-test .taken, ranged (counted (start .args .t1)) (start .pre) .jobs-low)
 
 loop-holds : tie.Need-loop-holds Inv-loop μ-loop
 unfolding anywhere
@@ -36,10 +42,10 @@ returns : tie.Need-returns Inv-loop μ-loop
 returns c =
     let here = c .before .before .before in
     let a = here .before .before .args in
-    entry-found (a .t1) (a .size) (a .deadline) (here .before .loop .place) (here .loop-test .taken) (c .before .is-job .ensures) (c .if1 .taken)
+    entry-found (a .t1) (a .size) (a .deadline) (here .before .loop .entry) (below here) (c .before .is-job .ensures) (c .if1 .taken)
 
-add-place : tie.Need-add-place Inv-loop μ-loop
-add-place c = omega arith
+add-entry : tie.Need-add-entry Inv-loop μ-loop
+add-entry c = omega arith
 
 loop-less : tie.Need-loop-less Inv-loop μ-loop
 loop-less c = omega arith
@@ -49,16 +55,16 @@ loop-again c =
     let here = c .before .before .before in
     let l = here .before .loop in
     let a = here .before .before .args in (
-      entry-not-here (a .t1) (a .size) (a .deadline) (l .place) (l .inv .0) (here .loop-test .taken) (c .before .is-job .ensures)
+      entry-not-here (a .t1) (a .size) (a .deadline) (l .entry) (l .inv .0) (below here) (c .before .is-job .ensures)
           (c .if1 .left),
-      omega arith,
+      omega (arith, below here),
     )
 
 returns-2 : tie.Need-returns-2 Inv-loop μ-loop
 returns-2 c =
     let a = c .before .before .args in
     let l = c .before .loop in
-    entry-nowhere (a .t1) (a .size) (a .deadline) (l .place) (l .inv .0) (l .inv .1) (c .loop-test .left)
+    entry-nowhere (a .t1) (a .size) (a .deadline) (l .entry) (l .inv .0) (l .inv .1) (omega (arith, c .loop-test .left))
 
 pub is-entry-spec : {M : Type 1} → statement M
 is-entry-spec =
@@ -72,7 +78,7 @@ is-entry-spec =
     element-copy-out-one
     is-job-requires
     returns
-    add-place
+    add-entry
     loop-less
     loop-again
     returns-2)

@@ -1,5 +1,5 @@
 -- `is_job` meets its contract: the size is another, or the deadline decides.
-use mathlib.Core.Path.{sym, ap}
+use mathlib.Core.Path.{_≡_, sym, ap}
 use mathlib.Core.Bool.{Bool, _&&_}
 use borrow.Author.Tests.{eq-eqb, ne-eqb}
 use lib.Dec.{eqb}
@@ -9,7 +9,8 @@ use Rattle.stepper.proofs.look.is_job.Tie as tie
 returns : tie.Need-returns
 returns c =
     let a = c .before .before .args in
-    sym (ap (λ (b : Bool). b && eqb (a .one .deadline) (a .deadline)) (ne-eqb (a .one .size) (a .size) (c .if1 .taken)))
+    let other : a .one .size ≡ a .size → ⊥ = c .if1 .taken in
+    sym (ap (λ (b : Bool). b && eqb (a .one .deadline) (a .deadline)) (ne-eqb (a .one .size) (a .size) other))
 
 returns-2 : tie.Need-returns-2
 returns-2 c =
