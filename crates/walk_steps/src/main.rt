@@ -1,8 +1,9 @@
-// Steps sheet A, whose file is named as the argument, and prints each answer of the stepper: from every queue along every list of entries,
+// Steps sheet A, whose bytes stand on standard input, and prints each answer of the stepper: from every queue along every list of entries,
 // with the sheet's own plan; with damaged plans; and at states that are right and wrong. What it should print is stored beside the crate,
 // and came from tests/stepping.py, which says what each line is for; the gate compares the two. The ranges here are for sheet A alone.
 ghost use Prim.Native.Nat.{_<_};
 ghost use lib.ListN.{length};
+use libc::STDIN_FILENO;
 use libc::STDOUT_FILENO;
 use model::Sheet;
 use stepper::State;
@@ -203,20 +204,11 @@ fn walk(sheet: Sheet) {
     tell_short(sheet, &plan);
 }
 
-// The sheet of a file; a file that is not there is read as one with no bytes.
-fn sheet_in(path: &[u8]) -> codec::ReadSheet {
-    let mut bytes = [0u8; 512];
-    let fd = os::open_read(path);
-    let length = io::read_full(fd, &mut bytes);
-    libc::close(fd);
-    codec::read(&bytes[..length])
-}
-
 // A sheet that is refused on reading prints nothing.
 fn main() {
-    let mut path = [0u8; 64];
-    let length = os::arg(1, &mut path);
-    let read = sheet_in(&path[..length]);
+    let mut bytes = [0u8; 512];
+    let length = io::read_full(STDIN_FILENO, &mut bytes);
+    let read = codec::read(&bytes[..length]);
     if read.number == 0 {
         let sheet = read.sheet;
         walk(sheet);
