@@ -45,10 +45,10 @@ returns c =
     entry-found (a .t1) (a .size) (a .deadline) (here .before .loop .entry) (below here) (c .before .is-job .ensures) (c .if1 .taken)
 
 add-entry : tie.Need-add-entry Inv-loop μ-loop
-add-entry c = omega arith
+add-entry c = omega (arith, below (c .before .before .before))
 
 loop-less : tie.Need-loop-less Inv-loop μ-loop
-loop-less c = omega arith
+loop-less c = omega (arith, below (c .before .before .before))
 
 loop-again : tie.Need-loop-again Inv-loop μ-loop
 loop-again c =
