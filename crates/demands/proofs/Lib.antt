@@ -11,4 +11,5 @@ pub mod StepperInOrder
 pub mod ReadInOrder
 pub mod PlanInOrder
 pub mod Demand1
+pub mod Hopeless
 pub mod Stepping
