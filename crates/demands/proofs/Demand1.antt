@@ -1,10 +1,11 @@
 -- Demand 1, over the calls' actual contracts: for each call and each number n that it can give, the answer is n exactly when a test of
 -- number n fails and every earlier one passes (the tests in order are the lists of lines of specs/Numbers.antt); and what a refused call
--- answers and leaves. `Tells` says it for every n at once; the numbers that have one line alone are written out below it.
-use Prim.Native.Nat.{ℕ, zero, suc, _+_, _*_, _-_, _^_, _≤_, _<_}
+-- answers and leaves. `Tells` says it for every n at once; below it the numbers are written out one by one, and which ones a
+-- call can give (`OneOf`).
+use Prim.Native.Nat.{ℕ, zero, suc, pred, _+_, _*_, _-_, _^_, _≤_, _<_}
 use mathlib.Core.Path.{_≡_, refl, sym, ap, _∙_, subst}
 use mathlib.Core.Bool.{Bool, true, false, _&&_, not}
-use mathlib.Core.List.{List, [], _∷_, _++_, append-assoc, append-nil}
+use mathlib.Core.List.{List, [], _∷_, _++_, append-assoc}
 use mathlib.Core.Logic.{⊎-elim, _⊎_, inl, inr, _↔_}
 use mathlib.Core.Option.{Option, none, some, Option·getD}
 use native.Mathlib.Nat.{zero-lt-suc}
@@ -14,11 +15,12 @@ use lib.Dec.{leb, ltb, eqb}
 use lib.ListN.{length}
 use Rattle.process.proofs.Definite.{value-unique}
 use Rattle.model.specs.Bytes.{sheetBytes, writeRefusal, write}
-use Rattle.model.specs.Counted.{Counted, counted, inMemory, weightAt, zeroSheet, W, M, G}
+use Rattle.model.specs.Counted.{Counted, counted, inMemory, speedAt, energyAt, weightAt, zeroSheet, W, M, G}
 use Rattle.model.specs.Plan.{processOf, valueIn, valuesNeeded, planNeeded, planRefusal, number12, Filled, LeavesBy, rowRefusal}
 use Rattle.model.specs.Plan as model-plan
 use Rattle.model.specs.Queue.{emptyQueue, bearable}
-use Rattle.model.specs.Refusal.{boundRight, horizonRight, valueLimit, sheetRefusal, N}
+use Rattle.model.specs.Refusal.{boundRight, speedCountRight, speedRight, energyRight, horizonRight, jobCountRight, valueLimit, sheetRefusal, N}
+use Rattle.model.specs.Tests.{everywhere}
 use Rattle.model.specs.declared.Sheet.{Sheet}
 use Rattle.model.proofs.Rooms.{row-none, row-past, row-accepted}
 use Rattle.model.proofs.RoundTrip.{write-number}
@@ -34,32 +36,54 @@ use Rattle.stepper.specs.declared.state.State.{State}
 use Rattle.stepper.specs.declared.state.Stepped.{Stepped}
 use Rattle.stepper.specs.declared.state.Told.{Told}
 use Rattle.demands.specs.Calls.{Reads, Writes, Plans, Rows, Starts, Speeds, Advances}
-use Rattle.demands.specs.Numbers.{Line, line, AllPass, FailsFirst, Tells, PlanTells, boundLines, speedTableLines, fieldLines, limitLines, nothing, sheetLines, writeLines, planLines, rowLines, startLines, speedLines, advanceLines, speedField, sheetIn, endOf, reading, readLines}
+use Rattle.demands.specs.Numbers.{Line, line, AllPass, FailsFirst, Tells, PlanTells, OneOf, linesOfJob, fieldLines, linesToSpeedCount, linesToSpeed, linesToEnergy, linesToHorizon, linesToJobCount, linesToJob, limitLines, nothing, sheetLines, writeLines, planLines, rowLines, startLines, speedLines, advanceLines, sheetIn, endOf, reading, readLines}
 use Rattle.demands.proofs.Demand2.{planned-filled}
 use Rattle.demands.proofs.Determined.{answered, read-is, write-is, plan-is, row-is, start-is, speed-is, advance-is}
-use Rattle.demands.proofs.InOrder.{Each, Other, all-front, each-append, all-or-fails, fails-at, tells-at, fails-front, tells-front}
-use Rattle.demands.proofs.PlanInOrder.{by-value, by-line, row-there}
+use Rattle.demands.proofs.InOrder.{Each, Other, all-front, each-append, all-or-fails, fails-at, tells-at, fails-front, tells-front, tells-so, one-of, one-of-range}
+use Rattle.demands.proofs.PlanInOrder.{by-value, by-line, plan-so, row-there}
 use Rattle.demands.proofs.ReadInOrder.{read-told, read-zero, read-accepted}
-use Rattle.demands.proofs.SheetInOrder.{fields-4, fields-7, limits-9, limits-10, fields-numbers, sheet-without, sheet-told, write-told, plan-told, row-told, row-numbers}
-use Rattle.demands.proofs.StepperInOrder.{speed-without, start-told, speed-told, advance-told, start-number, speed-number, advance-number}
+use Rattle.demands.proofs.SheetInOrder.{fields-4, fields-5, fields-6, fields-7, fields-8, limits-9, limits-10, fields-numbers, room-numbers, sheet-without, sheet-told, write-told, plan-told, row-told, row-numbers}
+use Rattle.demands.proofs.StepperInOrder.{start-numbers, speed-lines-numbers, advance-numbers, speed-without, start-told, speed-told, advance-told, start-number, speed-number, advance-number}
 
--- a sheet in memory: "A sheet in memory is tested 4 to 10 in that field order by every call". The numbers with one line alone
+-- a sheet in memory: "A sheet in memory is tested 4 to 10 in that field order by every call"
+
+-- the limits' numbers are 9 and 10
+limits-other : (s : Counted) (n : ℕ) → n < 9 → Each (Other n) (limitLines s)
+limits-other s n h = (λ e. omega arith, (λ e. omega arith, tt))
 
 -- "4: D out of range"
 pub sheet-4 : (s : Counted) → (sheetRefusal s ≡ 4) ↔ (boundRight (s .bound) ≡ false)
 unfolding sheetLines
 sheet-4 s =
-    let alone = fields-4 nothing s (limitLines s) (sheet-told s) (λ k. tt) (λ e. omega arith, (λ e. omega arith, tt)) in
+    let alone = fields-4 nothing s (limitLines s) (sheet-told s) (λ k. tt) (limits-other s 4 (omega arith)) in
     (λ e. alone .0 e .1, λ f. alone .1 (tt, f))
 
--- "7: T out of range"
-pub sheet-7 : (s : Counted) →
-    (sheetRefusal s ≡ 7) ↔ (AllPass (boundLines nothing s ++ speedTableLines nothing s) × (horizonRight (s .horizon) ≡ false))
+-- "5: count of speeds out of range, first not 0, not strictly rising, or one above 8"
+pub sheet-5 : (s : Counted) →
+    (sheetRefusal s ≡ 5) ↔
+    ((AllPass (linesToSpeedCount nothing s) × (speedCountRight (s .speedCount) ≡ false)) ⊎
+    ((j : ℕ) × (j < s .speedCount) × AllPass (linesToSpeed nothing s j) × (speedRight j (speedAt s (pred j)) (speedAt s j) ≡ false)))
 unfolding sheetLines
-sheet-7 s =
-    subst (λ (l : List Line). (sheetRefusal s ≡ 7) ↔ (AllPass (boundLines nothing s ++ l) × (horizonRight (s .horizon) ≡ false)))
-    (append-nil (speedTableLines nothing s))
-    (fields-7 nothing s (limitLines s) (sheet-told s) (λ k. tt) (λ e. omega arith, (λ e. omega arith, tt)))
+sheet-5 s = fields-5 nothing s (limitLines s) (sheet-told s) (λ k. tt) (limits-other s 5 (omega arith))
+
+-- "6: an energy above 65,535"
+pub sheet-6 : (s : Counted) →
+    (sheetRefusal s ≡ 6) ↔ ((j : ℕ) × (j < s .speedCount) × AllPass (linesToEnergy nothing s j) × (energyRight (energyAt s j) ≡ false))
+unfolding sheetLines
+sheet-6 s = fields-6 nothing s (limitLines s) (sheet-told s) (λ k. tt) (limits-other s 6 (omega arith))
+
+-- "7: T out of range"
+pub sheet-7 : (s : Counted) → (sheetRefusal s ≡ 7) ↔ (AllPass (linesToHorizon nothing s) × (horizonRight (s .horizon) ≡ false))
+unfolding sheetLines
+sheet-7 s = fields-7 nothing s (limitLines s) (sheet-told s) (λ k. tt) (limits-other s 7 (omega arith))
+
+-- "8: a job count, weight, size or deadline out of range"
+pub sheet-8 : (s : Counted) →
+    (sheetRefusal s ≡ 8) ↔
+    ((AllPass (linesToJobCount nothing s) × (jobCountRight (s .jobCount) ≡ false)) ⊎
+    ((i : ℕ) × (i < s .jobCount) × AllPass (linesToJob nothing s i) × FailsFirst (linesOfJob nothing s i) 8))
+unfolding sheetLines
+sheet-8 s = fields-8 nothing s (limitLines s) (sheet-told s) (λ k. tt) (limits-other s 8 (omega arith))
 
 -- "9: T times G times W to the power T exceeds 2^63-1"
 pub sheet-9 : (s : Counted) →
@@ -94,8 +118,6 @@ read-done {bytes = bytes} call e =
     let promised = read-is call in
     promised .sheet-is ∙ read-accepted bytes (sym (promised .number-is) ∙ e)
 
--- the numbers with one line alone
-
 -- what comes before a field's range has the numbers 1 and 2
 reading-other : (bytes : List ℕ) (n k : ℕ) → 2 < n → Each (Other n) (reading bytes k)
 reading-other bytes n k h = (λ e. omega arith, (λ e. omega arith, tt))
@@ -115,7 +137,29 @@ to-3-other bytes n h =
     each-append (Other n) (fieldLines (reading bytes) (sheetIn bytes)) _ (fields-other bytes n (omega arith) (λ m l k e. omega arith))
     (λ e. omega arith, tt)
 
+-- after all the fields there are 3, 9 and 10
+after-fields-other : (bytes : List ℕ) (n : ℕ) → 3 < n → n < 9 →
+    Each (Other n) (line 3 (leb (length bytes) (endOf bytes)) ∷ limitLines (sheetIn bytes))
+after-fields-other bytes n h k = (λ e. omega arith, limits-other (sheetIn bytes) n k)
+
+-- all the lines of a read are 1 to 10
+read-numbers : (P : ℕ → Type 0) (bytes : List ℕ) → ((m : ℕ) → 1 ≤ m → m ≤ 10 → P m) → Each P (readLines bytes)
+unfolding readLines
+read-numbers P bytes range =
+    each-append P (fieldLines (reading bytes) (sheetIn bytes)) _
+    (fields-numbers P (reading bytes) (sheetIn bytes)
+    (λ k. (range 1 (omega arith) (omega arith), (range 2 (omega arith) (omega arith), tt)))
+    (λ m h k. range m (omega arith) (omega arith)))
+    (range 3 (omega arith) (omega arith), (range 9 (omega arith) (omega arith), (range 10 (omega arith) (omega arith), tt)))
+
 module _ {bytes : List ℕ} {a : ReadSheet} (call : Reads bytes a) where
+  -- "Reading goes field by field. .. After the last field: 3, 9, 10"
+  pub read-gives : OneOf (0 ∷ 1 ∷ 2 ∷ 3 ∷ 4 ∷ 5 ∷ 6 ∷ 7 ∷ 8 ∷ 9 ∷ 10 ∷ []) (a .number)
+  unfolding everywhere
+  read-gives =
+      let numbers : List ℕ = 0 ∷ 1 ∷ 2 ∷ 3 ∷ 4 ∷ 5 ∷ 6 ∷ 7 ∷ 8 ∷ 9 ∷ 10 ∷ [] in
+      tells-so (OneOf numbers) (read-tells call) (read-numbers (OneOf numbers) bytes (one-of-range numbers 1 10 tt)) (inl refl)
+
   -- "3: bytes follow the last field"
   pub read-3 : (a .number ≡ 3) ↔ (AllPass (fieldLines (reading bytes) (sheetIn bytes)) × (leb (length bytes) (endOf bytes) ≡ false))
   unfolding readLines
@@ -128,18 +172,49 @@ module _ {bytes : List ℕ} {a : ReadSheet} (call : Reads bytes a) where
   unfolding readLines
   read-4 =
       fields-4 (reading bytes) (sheetIn bytes) _ (read-tells call) (λ k. reading-other bytes 4 k (omega arith))
-      (λ e. omega arith, (λ e. omega arith, (λ e. omega arith, tt)))
+      (after-fields-other bytes 4 (omega arith) (omega arith))
+
+  -- "5: count of speeds out of range, first not 0, not strictly rising, or one above 8"
+  pub read-5 :
+      let s = sheetIn bytes in
+      (a .number ≡ 5) ↔
+      ((AllPass (linesToSpeedCount (reading bytes) s) × (speedCountRight (s .speedCount) ≡ false)) ⊎
+      ((j : ℕ) × (j < s .speedCount) × AllPass (linesToSpeed (reading bytes) s j) ×
+      (speedRight j (speedAt s (pred j)) (speedAt s j) ≡ false)))
+  unfolding readLines
+  read-5 =
+      fields-5 (reading bytes) (sheetIn bytes) _ (read-tells call) (λ k. reading-other bytes 5 k (omega arith))
+      (after-fields-other bytes 5 (omega arith) (omega arith))
+
+  -- "6: an energy above 65,535"
+  pub read-6 :
+      let s = sheetIn bytes in
+      (a .number ≡ 6) ↔
+      ((j : ℕ) × (j < s .speedCount) × AllPass (linesToEnergy (reading bytes) s j) × (energyRight (energyAt s j) ≡ false))
+  unfolding readLines
+  read-6 =
+      fields-6 (reading bytes) (sheetIn bytes) _ (read-tells call) (λ k. reading-other bytes 6 k (omega arith))
+      (after-fields-other bytes 6 (omega arith) (omega arith))
 
   -- "7: T out of range"
   pub read-7 :
       let s = sheetIn bytes in
-      (a .number ≡ 7) ↔
-      (AllPass (boundLines (reading bytes) s ++ (speedTableLines (reading bytes) s ++ reading bytes (speedField (s .speedCount)))) ×
-      (horizonRight (s .horizon) ≡ false))
+      (a .number ≡ 7) ↔ (AllPass (linesToHorizon (reading bytes) s) × (horizonRight (s .horizon) ≡ false))
   unfolding readLines
   read-7 =
       fields-7 (reading bytes) (sheetIn bytes) _ (read-tells call) (λ k. reading-other bytes 7 k (omega arith))
-      (λ e. omega arith, (λ e. omega arith, (λ e. omega arith, tt)))
+      (after-fields-other bytes 7 (omega arith) (omega arith))
+
+  -- "8: a job count, weight, size or deadline out of range"
+  pub read-8 :
+      let s = sheetIn bytes in
+      (a .number ≡ 8) ↔
+      ((AllPass (linesToJobCount (reading bytes) s) × (jobCountRight (s .jobCount) ≡ false)) ⊎
+      ((i : ℕ) × (i < s .jobCount) × AllPass (linesToJob (reading bytes) s i) × FailsFirst (linesOfJob (reading bytes) s i) 8))
+  unfolding readLines
+  read-8 =
+      fields-8 (reading bytes) (sheetIn bytes) _ (read-tells call) (λ k. reading-other bytes 8 k (omega arith))
+      (after-fields-other bytes 8 (omega arith) (omega arith))
 
   -- the lines up to 3, and then 9 and 10
   to-3-told : Tells (a .number) (linesTo3 bytes ++ limitLines (sheetIn bytes))
@@ -168,6 +243,14 @@ write-tells {sheet = sheet} {before = before} call =
     let s = counted sheet in
     let same = write-is call .number-is ∙ write-number s before in
     subst (λ (n : ℕ). Tells n (writeLines s (length before))) (sym same) (write-told s (length before))
+
+-- "Planner, writer and row: 4 to 10, 11"
+pub write-gives : {sheet : Sheet} {before after : List ℕ} {a : Written} → Writes sheet before a after →
+    OneOf (0 ∷ 4 ∷ 5 ∷ 6 ∷ 7 ∷ 8 ∷ 9 ∷ 10 ∷ 11 ∷ []) (a .number)
+unfolding writeLines everywhere
+write-gives {sheet = sheet} call =
+    let numbers : List ℕ = 0 ∷ 4 ∷ 5 ∷ 6 ∷ 7 ∷ 8 ∷ 9 ∷ 10 ∷ 11 ∷ [] in
+    tells-so (OneOf numbers) (write-tells call) (room-numbers (OneOf numbers) (counted sheet) _ (one-of-range numbers 4 11 tt)) (inl refl)
 
 -- "A refused write .. touches no lent place and reports zero for length"
 pub write-refused : {sheet : Sheet} {before after : List ℕ} {a : Written} → Writes sheet before a after → (a .number ≡ 0 → ⊥) →
@@ -213,6 +296,14 @@ module _ {sheet : Sheet} {values₀ plan₀ values bytes : List ℕ} {a : PlanAn
           let same = ap (λ (x : model-plan.PlanAnswer). x .number) (leaves .answer) in
           subst (λ (n : ℕ). PlanTells (counted sheet) (length values₀) (length plan₀) n) (sym same)
           (by-line (counted sheet) (length values₀) (length plan₀) (suc number) (zero-lt-suc number) told)
+
+  -- "Planner, writer and row: 4 to 10, 11", "12: planned, but the empty queue at slot 0 has none"
+  pub plan-gives : OneOf (0 ∷ 4 ∷ 5 ∷ 6 ∷ 7 ∷ 8 ∷ 9 ∷ 10 ∷ 11 ∷ 12 ∷ []) (a .number)
+  unfolding everywhere
+  plan-gives =
+      let numbers : List ℕ = 0 ∷ 4 ∷ 5 ∷ 6 ∷ 7 ∷ 8 ∷ 9 ∷ 10 ∷ 11 ∷ 12 ∷ [] in
+      plan-so (counted sheet) (length values₀) (length plan₀) (OneOf numbers) plan-tells (one-of-range numbers 4 11 tt) (inl refl)
+      (one-of numbers 12 tt)
 
   -- "A refused .. plan touches no lent place and reports zero for .. N and least energy; 12 is the exception"
   pub plan-refused : (a .number ≡ 0 → ⊥) → (a .number ≡ 12 → ⊥) → (a .queues ≡ 0) × (a .least ≡ 0) × (values ≡ values₀) × (bytes ≡ plan₀)
@@ -302,6 +393,14 @@ module _ {state : State} {sheet : Sheet} {a : Stepped} (call : Starts state shee
       let x = stateOf state in
       subst (λ (n : ℕ). Tells n (startLines s x)) (sym (start-is call .number-is ∙ start-number s x .0)) (start-told s x)
 
+  -- "Start: 4 to 10, 13"
+  pub start-gives : OneOf (0 ∷ 4 ∷ 5 ∷ 6 ∷ 7 ∷ 8 ∷ 9 ∷ 10 ∷ 13 ∷ []) (a .number)
+  unfolding everywhere
+  start-gives =
+      let numbers : List ℕ = 0 ∷ 4 ∷ 5 ∷ 6 ∷ 7 ∷ 8 ∷ 9 ∷ 10 ∷ 13 ∷ [] in
+      tells-so (OneOf numbers) start-tells
+      (start-numbers (OneOf numbers) (counted sheet) (stateOf state) (one-of-range numbers 4 10 tt) (one-of numbers 13 tt)) (inl refl)
+
   -- "A refused start gives an all-zero state"
   pub start-refused : (a .number ≡ 0 → ⊥) → stateOf (a .state) ≡ zeroState
   start-refused refused =
@@ -327,6 +426,16 @@ module _ {state : State} {sheet : Sheet} {bytes : List ℕ} {a : Told} (call : S
       let s = counted sheet in
       let x = stateOf state in
       subst (λ (n : ℕ). Tells n (speedLines s bytes x)) (sym (speed-is call .number-is ∙ speed-number s bytes x .0)) (speed-told s bytes x)
+
+  -- "Speed: 4 to 10, 11, 13, 14, 16"
+  pub speed-gives : OneOf (0 ∷ 4 ∷ 5 ∷ 6 ∷ 7 ∷ 8 ∷ 9 ∷ 10 ∷ 11 ∷ 13 ∷ 14 ∷ 16 ∷ []) (a .number)
+  unfolding everywhere
+  speed-gives =
+      let numbers : List ℕ = 0 ∷ 4 ∷ 5 ∷ 6 ∷ 7 ∷ 8 ∷ 9 ∷ 10 ∷ 11 ∷ 13 ∷ 14 ∷ 16 ∷ [] in
+      tells-so (OneOf numbers) speed-tells
+      (speed-lines-numbers (OneOf numbers) (counted sheet) bytes (stateOf state) (one-of-range numbers 4 11 tt) (one-of numbers 13 tt)
+      (one-of numbers 14 tt) (one-of numbers 16 tt))
+      (inl refl)
 
   -- "A refused speed is 0"
   pub speed-refused : (a .number ≡ 0 → ⊥) → a .speed ≡ 0
@@ -447,3 +556,16 @@ module _ {state : State} {sheet : Sheet} {bytes : List ℕ} {size deadline : ℕ
       energy-small s (row-accepted s (length bytes) (passed .0) .0) x (passed .1) (planByte s bytes x) (byte-on-sheet s x _ (passed .2)) in
       let same = ap (λ (y : model-stepper.State). y .energy) (moved-by s x (planByte s bytes x) size deadline) in
       omega (arith, leb-false (moved s x (planByte s bytes x) size deadline .energy) 4294967295 (told .1), small, same)
+
+  -- "Advance: the same, then 15, 17, 18", of which 18 is never answered
+  pub advance-gives : OneOf (0 ∷ 4 ∷ 5 ∷ 6 ∷ 7 ∷ 8 ∷ 9 ∷ 10 ∷ 11 ∷ 13 ∷ 14 ∷ 16 ∷ 15 ∷ 17 ∷ []) (a .number)
+  unfolding everywhere
+  advance-gives =
+      let numbers : List ℕ = 0 ∷ 4 ∷ 5 ∷ 6 ∷ 7 ∷ 8 ∷ 9 ∷ 10 ∷ 11 ∷ 13 ∷ 14 ∷ 16 ∷ 15 ∷ 17 ∷ [] in
+      let So : ℕ → Type 0 = λ m. (m ≡ 18 → ⊥) → OneOf numbers m in
+      tells-so So advance-tells
+      (advance-numbers So (counted sheet) bytes (stateOf state) size deadline
+      (speed-lines-numbers So (counted sheet) bytes (stateOf state) (λ m h k other. one-of-range numbers 4 11 tt m h k)
+      (λ other. one-of numbers 13 tt) (λ other. one-of numbers 14 tt) (λ other. one-of numbers 16 tt))
+      (λ other. one-of numbers 15 tt) (λ other. one-of numbers 17 tt) (λ other. absurd (other refl)))
+      (λ other. inl refl) advance-never-18

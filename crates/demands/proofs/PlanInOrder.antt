@@ -1,11 +1,14 @@
 -- Demand 1 for the planner and the row call, of the model's definitions: the planner's number is that of the first line that fails or, where
 -- all pass, by the empty queue's value (`PlanTells` of specs/Numbers.antt); and a row that is there is not empty.
-use Prim.Native.Nat.{ℕ, _+_, _-_, _≤_, _<_}
-use mathlib.Core.Path.{_≡_, refl, sym, ap, _∙_}
+use Prim.Native.Nat.{ℕ, zero, suc, _+_, _-_, _≤_, _<_}
+use mathlib.Core.Path.{_≡_, refl, sym, ap, _∙_, subst}
+use mathlib.Core.Bool.{Bool, true, false}
 use mathlib.Core.List.{List, []}
 use mathlib.Core.Option.{Option, none, some}
-use native.Mathlib.Nat.{le-trans, suc-mul, mul-le-mul-right}
+use native.Mathlib.Nat.{zero-lt-suc, le-trans, suc-mul, mul-le-mul-right}
 use native.Mathlib.Omega.{arith}
+use borrow.Author.Tests.{eqb-true, eqb-false}
+use lib.Dec.{eqb}
 use lib.ListN.{length, drop, length-drop}
 use lib.Seq.{length-take-le}
 use Rattle.process.proofs.Definite.{value-unique}
@@ -15,16 +18,15 @@ use Rattle.model.specs.Queue.{emptyQueue}
 use Rattle.model.specs.Refusal.{N}
 use Rattle.model.proofs.Refusal.{accepted, N-low}
 use Rattle.model.proofs.Rooms.{row-part, row-accepted}
-use Rattle.demands.specs.Numbers.{AllPass, Tells, PlanTells, sheetLines, planLines}
-use Rattle.demands.proofs.InOrder.{Each, Other, each-append, fails-so, all-or-fails}
-use Rattle.demands.proofs.SheetInOrder.{sheet-numbers}
+use Rattle.demands.specs.Numbers.{AllPass, Tells, PlanTells, planLines}
+use Rattle.demands.proofs.InOrder.{Each, Other, fails-so, all-or-fails}
+use Rattle.demands.proofs.SheetInOrder.{room-numbers}
 
 module _ (s : Counted) (valuesRoom planRoom : ℕ) where
   -- 4 to 11 are the planner's lines
   pub plan-numbers : (P : ℕ → Type 0) → ((m : ℕ) → 4 ≤ m → m ≤ 11 → P m) → Each P (planLines s valuesRoom planRoom)
   unfolding planLines
-  plan-numbers P range =
-      each-append P (sheetLines s) _ (sheet-numbers P s (λ m h k. range m h (omega arith))) (range 11 (omega arith) (omega arith), tt)
+  plan-numbers P range = room-numbers P s _ range
 
   -- a slot and queue have one value, none or a number
   none-or-number : {v : ℕ} → IsValueAt s 0 (emptyQueue (s .bound)) none → IsValueAt s 0 (emptyQueue (s .bound)) (some v) → ⊥
@@ -59,6 +61,18 @@ module _ (s : Counted) (valuesRoom planRoom : ℕ) where
         );
         done = (λ d. absurd (omega arith), λ p. absurd (never (p .0)));
       }
+
+  -- what 0, 12 and the lines' numbers are, 4 to 11, the planner's number is
+  pub plan-so : (P : ℕ → Type 0) {number : ℕ} → PlanTells s valuesRoom planRoom number → ((m : ℕ) → 4 ≤ m → m ≤ 11 → P m) → P 0 → P 12 →
+      P number
+  plan-so P {number = zero} told range zero-so twelve-so = zero-so
+  plan-so P {number = suc n} told range zero-so twelve-so = go (eqb (suc n) 12) refl
+    where
+      go : (b : Bool) → eqb (suc n) 12 ≡ b → P (suc n)
+      go true e = subst P (sym (eqb-true (suc n) 12 e)) twelve-so
+      go false e =
+          fails-so P (planLines s valuesRoom planRoom) (plan-numbers P range)
+          (told .refused (suc n) (zero-lt-suc n) (eqb-false (suc n) 12 e) .0 refl)
 
 -- a row that is there is not empty
 pub row-there : (s : Counted) (plan : List ℕ) (t : ℕ) → rowRefusal s (length plan) ≡ 0 → t < s .horizon → row s plan t ≡ [] → ⊥

@@ -4,20 +4,20 @@ use Prim.Native.Nat.{ℕ, suc, pred, _*_, _^_, _≤_, _<_}
 use mathlib.Core.Path.{_≡_, refl, sym, ap, _∙_}
 use mathlib.Core.Bool.{Bool, false}
 use mathlib.Core.List.{List, [], _∷_, _++_, append-assoc}
-use mathlib.Core.Logic.{_↔_}
+use mathlib.Core.Logic.{⊎-elim, _⊎_, inl, inr, _↔_}
 use native.Mathlib.Omega.{arith}
 use lib.Dec.{leb}
 use lib.ListN.{getD}
 use Rattle.model.specs.Bytes.{writeRefusal}
-use Rattle.model.specs.Counted.{Counted, zeroSpeed, zeroJob, W, G}
+use Rattle.model.specs.Counted.{Counted, zeroSpeed, zeroJob, speedAt, energyAt, W, G}
 use Rattle.model.specs.Plan.{planRefusal, rowRefusal}
 use Rattle.model.specs.Refusal.{boundRight, speedCountRight, speedRight, energyRight, horizonRight, jobCountRight, weightRight, sizeRight, deadlineRight, speedsRefusal, jobsRefusal, fieldsRefusal, refusal9, valueLimit, limitsRefusal, refusalGiven, sheetRefusal, N}
-use Rattle.model.specs.Tests.{check, _then_, inOrder}
+use Rattle.model.specs.Tests.{check, _then_, inOrder, inTurn}
 use Rattle.model.specs.declared.Job.{Job}
 use Rattle.model.specs.declared.Speed.{Speed}
 use Rattle.model.proofs.Tests.{then-then}
-use Rattle.demands.specs.Numbers.{Line, line, AllPass, Tells, speedField, jobField, fieldLine, linesOfSpeed, linesOfJob, boundLines, speedTableLines, horizonLines, jobTableLines, fieldLines, limitLines, nothing, sheetLines, writeLines, planLines, rowLines}
-use Rattle.demands.proofs.InOrder.{firstOf, Each, Other, then-nothing, first-append, first-in-turn, each-append, each-in-turn, tells, tells-at}
+use Rattle.demands.specs.Numbers.{Line, line, AllPass, FailsFirst, Tells, speedField, jobField, fieldLine, linesOfSpeed, linesOfJob, boundLines, speedTableLines, horizonLines, jobTableLines, fieldLines, linesToSpeedCount, linesWithSpeedCount, linesToSpeed, linesToEnergy, linesToHorizon, linesToJobCount, linesToJob, limitLines, nothing, sheetLines, writeLines, planLines, rowLines}
+use Rattle.demands.proofs.InOrder.{firstOf, Each, Other, then-nothing, first-append, first-in-turn, each-append, each-in-turn, tells, none-fails, fails-at, tells-at, tells-table, tells-table-at}
 
 -- the numbers, where that of what comes before the range of number k is `ahead k`
 
@@ -98,12 +98,16 @@ module _ (P : ℕ → Type 0) (before : ℕ → List Line) (s : Counted) (ahead 
   pub bound-numbers : P 4 → Each P (boundLines before s)
   bound-numbers four = field-numbers 0 4 _ four
 
+  -- a speed: 5 and 6
+  one-speed-numbers : P 5 → P 6 → (j : ℕ) → Each P (linesOfSpeed before s j)
+  one-speed-numbers five six j =
+      each-append P (fieldLine before (speedField j) 5 _) _ (field-numbers _ 5 _ five) (field-numbers _ 6 _ six)
+
   -- the speeds: 5 and 6
   pub speed-numbers : P 5 → P 6 → Each P (speedTableLines before s)
   speed-numbers five six =
       each-append P (fieldLine before 1 5 _) _ (field-numbers 1 5 _ five)
-      (each-in-turn P (linesOfSpeed before s) (s .speedCount)
-      (λ j. each-append P (fieldLine before (speedField j) 5 _) _ (field-numbers _ 5 _ five) (field-numbers _ 6 _ six)))
+      (each-in-turn P (linesOfSpeed before s) (s .speedCount) (one-speed-numbers five six))
 
   -- the jobs: 8
   pub job-numbers : P 8 → Each P (jobTableLines before s)
@@ -113,20 +117,45 @@ module _ (P : ℕ → Type 0) (before : ℕ → List Line) (s : Counted) (ahead 
       (λ i. each-append P (fieldLine before (jobField (s .speedCount) i) 8 _) _ (field-numbers _ 8 _ eight)
       (each-append P (fieldLine before (suc (jobField (s .speedCount) i)) 8 _) _ (field-numbers _ 8 _ eight) (field-numbers _ 8 _ eight))))
 
+  -- T and the jobs: 7 and 8
+  pub after-speed-numbers : P 7 → P 8 → Each P (horizonLines before s ++ jobTableLines before s)
+  after-speed-numbers seven eight = each-append P (horizonLines before s) _ (field-numbers _ 7 _ seven) (job-numbers eight)
+
   -- the speeds, T and the jobs: 5 to 8
   pub after-bound-numbers : ((m : ℕ) → 5 ≤ m → m ≤ 8 → P m) →
       Each P (speedTableLines before s ++ (horizonLines before s ++ jobTableLines before s))
   after-bound-numbers range =
       each-append P (speedTableLines before s) _
       (speed-numbers (range 5 (omega arith) (omega arith)) (range 6 (omega arith) (omega arith)))
-      (each-append P (horizonLines before s) _ (field-numbers _ 7 _ (range 7 (omega arith) (omega arith)))
-      (job-numbers (range 8 (omega arith) (omega arith))))
+      (after-speed-numbers (range 7 (omega arith) (omega arith)) (range 8 (omega arith) (omega arith)))
 
   -- all the fields: 4 to 8
   pub fields-numbers : ((m : ℕ) → 4 ≤ m → m ≤ 8 → P m) → Each P (fieldLines before s)
   fields-numbers range =
       each-append P (boundLines before s) _ (bound-numbers (range 4 (omega arith) (omega arith)))
       (after-bound-numbers (λ m h k. range m (omega arith) k))
+
+  -- before the count of speeds: 4
+  pub to-speed-count-numbers : P 4 → Each P (linesToSpeedCount before s)
+  to-speed-count-numbers four = each-append P (boundLines before s) (before 1) (bound-numbers four) (ahead 1)
+
+  -- and with its line: 4 and 5
+  pub with-speed-count-numbers : P 4 → P 5 → Each P (linesWithSpeedCount before s)
+  with-speed-count-numbers four five = each-append P (linesToSpeedCount before s) _ (to-speed-count-numbers four) (five, tt)
+
+  -- before a speed, or T: 4 to 6
+  pub to-speed-numbers : P 4 → P 5 → P 6 → (j : ℕ) → Each P (linesToSpeed before s j)
+  to-speed-numbers four five six j =
+      each-append P (linesWithSpeedCount before s ++ inTurn (linesOfSpeed before s) j) _
+      (each-append P (linesWithSpeedCount before s) _ (with-speed-count-numbers four five)
+      (each-in-turn P (linesOfSpeed before s) j (one-speed-numbers five six)))
+      (ahead _)
+
+  -- before the count of jobs: 4 to 7
+  pub to-job-count-numbers : P 4 → P 5 → P 6 → P 7 → Each P (linesToJobCount before s)
+  to-job-count-numbers four five six seven =
+      each-append P (linesToHorizon before s ++ _ ∷ []) _
+      (each-append P (linesToHorizon before s) _ (to-speed-numbers four five six (s .speedCount)) (seven, tt)) (ahead _)
 
 -- a sheet in memory: 4 to 10
 pub sheet-numbers : (P : ℕ → Type 0) (s : Counted) → ((m : ℕ) → 4 ≤ m → m ≤ 10 → P m) → Each P (sheetLines s)
@@ -135,15 +164,25 @@ sheet-numbers P s range =
     each-append P (fieldLines nothing s) _ (fields-numbers P nothing s (λ k. tt) (λ m h k. range m h (omega arith)))
     (range 9 (omega arith) (omega arith), (range 10 (omega arith) (omega arith), tt))
 
+-- a sheet in memory and then other lines: 4 to 10, and theirs
+pub sheet-then-numbers : (P : ℕ → Type 0) (s : Counted) (more : List Line) → ((m : ℕ) → 4 ≤ m → m ≤ 10 → P m) → Each P more →
+    Each P (sheetLines s ++ more)
+sheet-then-numbers P s more range p = each-append P (sheetLines s) more (sheet-numbers P s range) p
+
+-- a sheet and a room: 4 to 11
+pub room-numbers : (P : ℕ → Type 0) (s : Counted) (passes : Bool) → ((m : ℕ) → 4 ≤ m → m ≤ 11 → P m) →
+    Each P (sheetLines s ++ line 11 passes ∷ [])
+room-numbers P s passes range =
+    sheet-then-numbers P s _ (λ m h k. range m h (omega arith)) (range 11 (omega arith) (omega arith), tt)
+
 -- a sheet and the room of a plan: 4 to 11
 pub row-numbers : (P : ℕ → Type 0) (s : Counted) (room : ℕ) → ((m : ℕ) → 4 ≤ m → m ≤ 11 → P m) → Each P (rowLines s room)
 unfolding rowLines
-row-numbers P s room range =
-    each-append P (sheetLines s) _ (sheet-numbers P s (λ m h k. range m h (omega arith))) (range 11 (omega arith) (omega arith), tt)
+row-numbers P s room range = room-numbers P s _ range
 
 -- the lines of a sheet in memory and then others have positive numbers, where those others have
 pub sheet-positive : (s : Counted) (more : List Line) → Each (λ m. 0 < m) more → Each (λ m. 0 < m) (sheetLines s ++ more)
-sheet-positive s more p = each-append (λ m. 0 < m) (sheetLines s) more (sheet-numbers (λ m. 0 < m) s (λ m h k. omega arith)) p
+sheet-positive s more p = sheet-then-numbers (λ m. 0 < m) s more (λ m h k. omega arith) p
 
 -- no number above 10 is among them
 pub sheet-without : (s : Counted) (n : ℕ) → 10 < n → Each (Other n) (sheetLines s)
@@ -171,11 +210,14 @@ pub row-told : (s : Counted) (room : ℕ) → Tells (rowRefusal s room) (rowLine
 unfolding rowLines
 row-told s room = tells (rowLines s room) (sheet-positive s _ (omega arith, tt)) (row-first s room)
 
--- the numbers that have one line alone, for a sheet in memory and for the reader alike
+-- the numbers of the fields, for a sheet in memory and for the reader alike
 
--- lines with one line among them, as what comes before it and what comes after it
-one-among : (a b c d e : List Line) (x : Line) → (a ++ (b ++ ((c ++ x ∷ []) ++ d))) ++ e ≡ (a ++ (b ++ c)) ++ x ∷ (d ++ e)
-one-among a b c d e x = simp append-assoc
+-- the last line before a table's entries, its count's, is the one line there of that number: it fails and all before it pass
+count-or-entry : {answer n : ℕ} {entry : Type 0} (front : List Line) (passes : Bool) → Each (Other n) front →
+    (answer ≡ n) ↔ (FailsFirst (front ++ line n passes ∷ []) n ⊎ entry) → (answer ≡ n) ↔ ((AllPass front × (passes ≡ false)) ⊎ entry)
+count-or-entry {n = n} front passes p table =
+    let alone = fails-at front n passes [] p tt in
+    (λ e. ⊎-elim (λ f. inl (alone .0 f)) inr (table .0 e), λ a. table .1 (⊎-elim (λ f. inl (alone .1 f)) inr a))
 
 module _ {answer : ℕ} (before : ℕ → List Line) (s : Counted) (more : List Line) (told : Tells answer (fieldLines before s ++ more)) where
   -- "4: D out of range"
@@ -183,23 +225,69 @@ module _ {answer : ℕ} (before : ℕ → List Line) (s : Counted) (more : List 
       (answer ≡ 4) ↔ (AllPass (before 0) × (boundRight (s .bound) ≡ false))
   fields-4 ahead later =
       let rest = speedTableLines before s ++ (horizonLines before s ++ jobTableLines before s) in
-      tells-at told (before 0) 4 _ (rest ++ more) (one-among [] [] (before 0) rest more _) (omega arith) (ahead 0)
+      tells-at told (before 0) 4 _ (rest ++ more) (simp append-assoc) (omega arith) (ahead 0)
       (each-append (Other 4) rest more (after-bound-numbers (Other 4) before s ahead (λ m h k e. omega arith)) later)
+
+  -- a number below 7 that each speed has in one line alone: it is the first to fail before the speeds, or at that line of one of them
+  fails-at-speed : (n : ℕ) → 0 < n → n < 7 → ((k : ℕ) → Each (Other n) (before k)) → Each (Other n) more →
+      (to here later : ℕ → List Line) (passes : ℕ → Bool) →
+      ((j : ℕ) → linesOfSpeed before s j ≡ here j ++ line n (passes j) ∷ later j) →
+      ((j : ℕ) → to j ≡ linesWithSpeedCount before s ++ inTurn (linesOfSpeed before s) j ++ here j) →
+      ((j : ℕ) → Each (Other n) (here j)) → ((j : ℕ) → Each (Other n) (later j)) →
+      (answer ≡ n) ↔
+      (FailsFirst (linesWithSpeedCount before s) n ⊎ ((j : ℕ) × (j < s .speedCount) × AllPass (to j) × (passes j ≡ false)))
+  fails-at-speed n h k ahead more-other =
+      let after = horizonLines before s ++ jobTableLines before s in
+      tells-table-at told (linesWithSpeedCount before s) (linesOfSpeed before s) (s .speedCount) (after ++ more) n
+      (simp append-assoc) h
+      (each-append (Other n) after more (after-speed-numbers (Other n) before s ahead (λ e. omega arith) (λ e. omega arith)) more-other)
+
+  -- "5: count of speeds out of range, first not 0, not strictly rising, or one above 8"
+  pub fields-5 : ((k : ℕ) → Each (Other 5) (before k)) → Each (Other 5) more →
+      (answer ≡ 5) ↔
+      ((AllPass (linesToSpeedCount before s) × (speedCountRight (s .speedCount) ≡ false)) ⊎
+      ((j : ℕ) × (j < s .speedCount) × AllPass (linesToSpeed before s j) × (speedRight j (speedAt s (pred j)) (speedAt s j) ≡ false)))
+  fields-5 ahead later =
+      count-or-entry (linesToSpeedCount before s) _ (to-speed-count-numbers (Other 5) before s ahead (λ e. omega arith))
+      (fails-at-speed 5 (omega arith) (omega arith) ahead later (linesToSpeed before s) (λ j. before (speedField j))
+      (λ j. fieldLine before (suc (speedField j)) 6 (energyRight (energyAt s j))) (λ j. speedRight j (speedAt s (pred j)) (speedAt s j))
+      (λ j. append-assoc (before (speedField j)) _ _) (λ j. refl) (λ j. ahead _)
+      (λ j. field-numbers (Other 5) before s ahead _ 6 _ (λ e. omega arith)))
+
+  -- "6: an energy above 65,535"
+  pub fields-6 : ((k : ℕ) → Each (Other 6) (before k)) → Each (Other 6) more →
+      (answer ≡ 6) ↔
+      ((j : ℕ) × (j < s .speedCount) × AllPass (linesToEnergy before s j) × (energyRight (energyAt s j) ≡ false))
+  fields-6 ahead later =
+      let speedLine : ℕ → List Line = λ j. fieldLine before (speedField j) 5 (speedRight j (speedAt s (pred j)) (speedAt s j)) in
+      let table =
+      fails-at-speed 6 (omega arith) (omega arith) ahead later (linesToEnergy before s)
+      (λ j. speedLine j ++ before (suc (speedField j))) (λ j. []) (λ j. energyRight (energyAt s j))
+      (λ j. simp append-assoc) (λ j. simp append-assoc)
+      (λ j. each-append (Other 6) (speedLine j) _ (field-numbers (Other 6) before s ahead _ 5 _ (λ e. omega arith)) (ahead _)) (λ j. tt) in
+      let none =
+      none-fails 6 (linesWithSpeedCount before s)
+      (with-speed-count-numbers (Other 6) before s ahead (λ e. omega arith) (λ e. omega arith)) in
+      (λ e. ⊎-elim (λ f. absurd (none f)) (λ x. x) (table .0 e), λ x. table .1 (inr x))
 
   -- "7: T out of range"
   pub fields-7 : ((k : ℕ) → Each (Other 7) (before k)) → Each (Other 7) more →
-      (answer ≡ 7) ↔
-      (AllPass (boundLines before s ++ (speedTableLines before s ++ before (speedField (s .speedCount)))) ×
-      (horizonRight (s .horizon) ≡ false))
+      (answer ≡ 7) ↔ (AllPass (linesToHorizon before s) × (horizonRight (s .horizon) ≡ false))
   fields-7 ahead later =
-      let here = before (speedField (s .speedCount)) in
-      tells-at told (boundLines before s ++ (speedTableLines before s ++ here)) 7 _ (jobTableLines before s ++ more)
-      (one-among (boundLines before s) (speedTableLines before s) here (jobTableLines before s) more _) (omega arith)
-      (each-append (Other 7) (boundLines before s) (speedTableLines before s ++ here)
-      (bound-numbers (Other 7) before s ahead (λ e. omega arith))
-      (each-append (Other 7) (speedTableLines before s) here
-      (speed-numbers (Other 7) before s ahead (λ e. omega arith) (λ e. omega arith)) (ahead _)))
+      tells-at told (linesToHorizon before s) 7 _ (jobTableLines before s ++ more) (simp append-assoc) (omega arith)
+      (to-speed-numbers (Other 7) before s ahead (λ e. omega arith) (λ e. omega arith) (λ e. omega arith) (s .speedCount))
       (each-append (Other 7) (jobTableLines before s) more (job-numbers (Other 7) before s ahead (λ e. omega arith)) later)
+
+  -- "8: a job count, weight, size or deadline out of range"
+  pub fields-8 : ((k : ℕ) → Each (Other 8) (before k)) → Each (Other 8) more →
+      (answer ≡ 8) ↔
+      ((AllPass (linesToJobCount before s) × (jobCountRight (s .jobCount) ≡ false)) ⊎
+      ((i : ℕ) × (i < s .jobCount) × AllPass (linesToJob before s i) × FailsFirst (linesOfJob before s i) 8))
+  fields-8 ahead later =
+      count-or-entry (linesToJobCount before s) _
+      (to-job-count-numbers (Other 8) before s ahead (λ e. omega arith) (λ e. omega arith) (λ e. omega arith) (λ e. omega arith))
+      (tells-table told (linesToJobCount before s ++ _ ∷ []) (linesOfJob before s) (s .jobCount) more 8
+      (simp append-assoc) (omega arith) later)
 
 module _ {answer : ℕ} (front : List Line) (s : Counted) (told : Tells answer (front ++ limitLines s)) where
   -- "9: T times G times W to the power T exceeds 2^63-1"

@@ -42,6 +42,11 @@ pub record Tells (answer : ℕ) (lines : List Line) : Type 0 where
   pub refused : (n : ℕ) → 0 < n → (answer ≡ n) ↔ FailsFirst lines n
   pub done : (answer ≡ 0) ↔ AllPass lines
 
+-- n is one of the numbers listed
+abbrev pub OneOf : List ℕ → ℕ → Type 0
+OneOf [] n = ⊥
+OneOf (m ∷ l) n = (n ≡ m) ⊎ OneOf l n
+
 -- The fields of a sheet, for the reader and for a sheet in memory alike. The numbers of a sheet are counted from 0 in 01's field order: "D;
 -- count of speeds; for each, speed then energy; T; count of jobs; for each, weight, size, deadline". So D is number 0, the count of speeds
 -- number 1, and then:
@@ -93,6 +98,38 @@ jobTableLines before s =
 -- 4 to 8 in field order
 abbrev pub fieldLines : (before : ℕ → List Line) → Counted → List Line
 fieldLines before s = boundLines before s ++ (speedTableLines before s ++ (horizonLines before s ++ jobTableLines before s))
+
+-- The lines before a field's own range: those of the fields before it, and what comes before that range
+
+-- before the count of speeds
+abbrev pub linesToSpeedCount : (before : ℕ → List Line) → Counted → List Line
+linesToSpeedCount before s = boundLines before s ++ before 1
+
+-- and with its line
+abbrev pub linesWithSpeedCount : (before : ℕ → List Line) → Counted → List Line
+linesWithSpeedCount before s = linesToSpeedCount before s ++ line 5 (speedCountRight (s .speedCount)) ∷ []
+
+-- before the speed at place j
+abbrev pub linesToSpeed : (before : ℕ → List Line) → Counted → ℕ → List Line
+linesToSpeed before s j = linesWithSpeedCount before s ++ inTurn (linesOfSpeed before s) j ++ before (speedField j)
+
+-- before its energy
+abbrev pub linesToEnergy : (before : ℕ → List Line) → Counted → ℕ → List Line
+linesToEnergy before s j =
+    linesToSpeed before s j ++ line 5 (speedRight j (speedAt s (pred j)) (speedAt s j)) ∷ [] ++ before (suc (speedField j))
+
+-- before T, which stands where one speed more would
+abbrev pub linesToHorizon : (before : ℕ → List Line) → Counted → List Line
+linesToHorizon before s = linesToSpeed before s (s .speedCount)
+
+-- before the count of jobs
+abbrev pub linesToJobCount : (before : ℕ → List Line) → Counted → List Line
+linesToJobCount before s =
+    linesToHorizon before s ++ line 7 (horizonRight (s .horizon)) ∷ [] ++ before (suc (speedField (s .speedCount)))
+
+-- before all the lines of the job at place i
+abbrev pub linesToJob : (before : ℕ → List Line) → Counted → ℕ → List Line
+linesToJob before s i = linesToJobCount before s ++ line 8 (jobCountRight (s .jobCount)) ∷ [] ++ inTurn (linesOfJob before s) i
 
 -- "9: T times G times W to the power T exceeds 2^63-1; G is the greatest energy, or 1 if that is 0", "10: N above 65,535"
 abbrev pub limitLines : Counted → List Line
