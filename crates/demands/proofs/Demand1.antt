@@ -36,7 +36,7 @@ use Rattle.stepper.specs.declared.state.State.{State}
 use Rattle.stepper.specs.declared.state.Stepped.{Stepped}
 use Rattle.stepper.specs.declared.state.Told.{Told}
 use Rattle.demands.specs.Calls.{Reads, Writes, Plans, Rows, Starts, Speeds, Advances}
-use Rattle.demands.specs.Numbers.{Line, line, AllPass, FailsFirst, Tells, PlanTells, OneOf, linesOfJob, fieldLines, linesToSpeedCount, linesToSpeed, linesToEnergy, linesToHorizon, linesToJobCount, linesToJob, limitLines, nothing, sheetLines, writeLines, planLines, rowLines, startLines, speedLines, advanceLines, sheetIn, endOf, reading, readLines}
+use Rattle.demands.specs.Numbers.{Line, line, AllPass, FailsFirst, Tells, PlanTells, OneOf, linesOfJob, fieldLines, linesToSpeedCount, linesToSpeed, linesToEnergy, linesToHorizon, linesToJobCount, linesToJob, limitLines, nothing, sheetLines, writeLines, planLines, rowLines, startLines, speedLines, advanceLines, linesTo14, linesTo16, linesTo17, linesTo18, sheetIn, endOf, reading, readLines}
 use Rattle.demands.proofs.Demand2.{planned-filled}
 use Rattle.demands.proofs.Determined.{answered, read-is, write-is, plan-is, row-is, start-is, speed-is, advance-is}
 use Rattle.demands.proofs.InOrder.{Each, Other, all-front, each-append, all-or-fails, fails-at, tells-at, fails-front, tells-front, tells-so, one-of, one-of-range}
@@ -451,46 +451,55 @@ module _ {state : State} {sheet : Sheet} {bytes : List ℕ} {a : Told} (call : S
       (λ e. omega arith, (λ e. omega arith, (λ e. omega arith, (λ e. omega arith, tt))))
 
   -- "11: a lent buffer shorter than needed"
-  pub speed-11 : (a .number ≡ 11) ↔ (AllPass (sheetLines (counted sheet)) × (leb (planNeeded (counted sheet)) (length bytes) ≡ false))
+  pub speed-11 :
+      let s = counted sheet in
+      (a .number ≡ 11) ↔ (AllPass (sheetLines s) × (leb (planNeeded s) (length bytes) ≡ false))
   unfolding speedLines rowLines
   speed-11 =
-      tells-at speed-tells (sheetLines (counted sheet)) 11 _ _ (append-assoc (sheetLines (counted sheet)) _ _) (omega arith)
-      (sheet-without (counted sheet) 11 (omega arith)) (λ e. omega arith, (λ e. omega arith, (λ e. omega arith, tt)))
+      let s = counted sheet in
+      tells-at speed-tells (sheetLines s) 11 _ _ (append-assoc (sheetLines s) _ _) (omega arith) (sheet-without s 11 (omega arith))
+      (λ e. omega arith, (λ e. omega arith, (λ e. omega arith, tt)))
 
   -- "13: the queue falls or is not bearable, an unused position is not zero, the slot is above T, or the energy is above the slot number
   -- times the greatest energy"
-  pub speed-13 : (a .number ≡ 13) ↔ (AllPass (rowLines (counted sheet) (length bytes)) × (stateRight (counted sheet) (stateOf state) ≡ false))
+  pub speed-13 :
+      let s = counted sheet in
+      (a .number ≡ 13) ↔ (AllPass (rowLines s (length bytes)) × (stateRight s (stateOf state) ≡ false))
   unfolding speedLines
   speed-13 =
-      tells-at speed-tells (rowLines (counted sheet) (length bytes)) 13 _ _ refl (omega arith)
-      (row-numbers (Other 13) (counted sheet) (length bytes) (λ m h k e. omega arith)) (λ e. omega arith, (λ e. omega arith, tt))
+      let s = counted sheet in
+      tells-at speed-tells (rowLines s (length bytes)) 13 _ _ refl (omega arith)
+      (row-numbers (Other 13) s (length bytes) (λ m h k e. omega arith)) (λ e. omega arith, (λ e. omega arith, tt))
 
   -- "14: the state's slot is T"
-  pub speed-14 : (a .number ≡ 14) ↔
-      (AllPass (rowLines (counted sheet) (length bytes) ++ line 13 (stateRight (counted sheet) (stateOf state)) ∷ []) × (not (eqb ((stateOf state) .slot) ((counted sheet) .horizon)) ≡ false))
+  pub speed-14 :
+      let s = counted sheet in
+      (a .number ≡ 14) ↔ (AllPass (linesTo14 s bytes (stateOf state)) × (not (eqb (state .slot) (s .horizon)) ≡ false))
   unfolding speedLines
   speed-14 =
-      tells-at speed-tells (rowLines (counted sheet) (length bytes) ++ _ ∷ []) 14 _ _
-      (sym (append-assoc (rowLines (counted sheet) (length bytes)) _ _)) (omega arith)
-      (each-append (Other 14) (rowLines (counted sheet) (length bytes)) _
-      (row-numbers (Other 14) (counted sheet) (length bytes) (λ m h k e. omega arith)) (λ e. omega arith, tt))
+      let s = counted sheet in
+      tells-at speed-tells (linesTo14 s bytes (stateOf state)) 14 _ _ (sym (append-assoc (rowLines s (length bytes)) _ _)) (omega arith)
+      (each-append (Other 14) (rowLines s (length bytes)) _
+      (row-numbers (Other 14) s (length bytes) (λ m h k e. omega arith)) (λ e. omega arith, tt))
       (λ e. omega arith, tt)
 
   -- "16: the plan byte is no sheet speed, or is below w(1)"
-  pub speed-16 : (a .number ≡ 16) ↔
-      (AllPass (rowLines (counted sheet) (length bytes) ++ line 13 (stateRight (counted sheet) (stateOf state)) ∷ line 14 (not (eqb ((stateOf state) .slot) ((counted sheet) .horizon))) ∷ []) ×
-      (byteRight (counted sheet) (stateOf state) (planByte (counted sheet) bytes (stateOf state)) ≡ false))
+  pub speed-16 :
+      let s = counted sheet in
+      let x = stateOf state in
+      (a .number ≡ 16) ↔ (AllPass (linesTo16 s bytes x) × (byteRight s x (planByte s bytes x) ≡ false))
   unfolding speedLines
   speed-16 =
-      tells-at speed-tells (rowLines (counted sheet) (length bytes) ++ _ ∷ _ ∷ []) 16 _ _
-      (sym (append-assoc (rowLines (counted sheet) (length bytes)) _ _)) (omega arith)
-      (each-append (Other 16) (rowLines (counted sheet) (length bytes)) _
-      (row-numbers (Other 16) (counted sheet) (length bytes) (λ m h k e. omega arith)) (λ e. omega arith, (λ e. omega arith, tt)))
+      let s = counted sheet in
+      tells-at speed-tells (linesTo16 s bytes (stateOf state)) 16 _ _ (sym (append-assoc (rowLines s (length bytes)) _ _)) (omega arith)
+      (each-append (Other 16) (rowLines s (length bytes)) _
+      (row-numbers (Other 16) s (length bytes) (λ m h k e. omega arith)) (λ e. omega arith, (λ e. omega arith, tt)))
       tt
 
 -- advance: "the same, then 15, 17, 18"
 
-module _ {state : State} {sheet : Sheet} {bytes : List ℕ} {size deadline : ℕ} {a : Stepped} (call : Advances state sheet bytes size deadline a) where
+module _ {state : State} {sheet : Sheet} {bytes : List ℕ} {size deadline : ℕ} {a : Stepped}
+    (call : Advances state sheet bytes size deadline a) where
   -- the number tells those lines
   pub advance-tells : Tells (a .number) (advanceLines (counted sheet) bytes (stateOf state) size deadline)
   advance-tells =
@@ -514,34 +523,42 @@ module _ {state : State} {sheet : Sheet} {bytes : List ℕ} {size deadline : ℕ
       (λ e. no15 (sym e), (λ e. no17 (sym e), (λ e. no18 (sym e), tt)))
 
   -- "15: no entry has this size and deadline"
-  pub advance-15 : (a .number ≡ 15) ↔ (AllPass (speedLines (counted sheet) bytes (stateOf state)) × (isEntry (counted sheet) size deadline ≡ false))
+  pub advance-15 :
+      let s = counted sheet in
+      (a .number ≡ 15) ↔ (AllPass (speedLines s bytes (stateOf state)) × (isEntry s size deadline ≡ false))
   unfolding advanceLines
   advance-15 =
-      tells-at advance-tells (speedLines (counted sheet) bytes (stateOf state)) 15 _ _ refl (omega arith)
-      (speed-without (counted sheet) bytes (stateOf state) 15 (omega arith) (λ e. omega arith)) (λ e. omega arith, (λ e. omega arith, tt))
+      let s = counted sheet in
+      let x = stateOf state in
+      tells-at advance-tells (speedLines s bytes x) 15 _ _ refl (omega arith) (speed-without s bytes x 15 (omega arith) (λ e. omega arith))
+      (λ e. omega arith, (λ e. omega arith, tt))
 
   -- "17: the next queue would not be bearable"
-  pub advance-17 : (a .number ≡ 17) ↔
-      (AllPass (speedLines (counted sheet) bytes (stateOf state) ++ line 15 (isEntry (counted sheet) size deadline) ∷ []) ×
-      (bearable (M (counted sheet)) (queueOf (counted sheet) (moved (counted sheet) (stateOf state) (planByte (counted sheet) bytes (stateOf state)) size deadline)) ≡ false))
+  pub advance-17 :
+      let s = counted sheet in
+      let x = stateOf state in
+      (a .number ≡ 17) ↔
+      (AllPass (linesTo17 s bytes x size deadline) × (bearable (M s) (queueOf s (moved s x (planByte s bytes x) size deadline)) ≡ false))
   unfolding advanceLines
   advance-17 =
-      tells-at advance-tells (speedLines (counted sheet) bytes (stateOf state) ++ _ ∷ []) 17 _ _
-      (sym (append-assoc (speedLines (counted sheet) bytes (stateOf state)) _ _)) (omega arith)
-      (each-append (Other 17) (speedLines (counted sheet) bytes (stateOf state)) _ (speed-without (counted sheet) bytes (stateOf state) 17 (omega arith) (λ e. omega arith))
-      (λ e. omega arith, tt))
+      let s = counted sheet in
+      let x = stateOf state in
+      tells-at advance-tells (linesTo17 s bytes x size deadline) 17 _ _ (sym (append-assoc (speedLines s bytes x) _ _)) (omega arith)
+      (each-append (Other 17) (speedLines s bytes x) _ (speed-without s bytes x 17 (omega arith) (λ e. omega arith)) (λ e. omega arith, tt))
       (λ e. omega arith, tt)
 
   -- "18: the new energy total would pass 4,294,967,295"
-  pub advance-18 : (a .number ≡ 18) ↔
-      (AllPass (speedLines (counted sheet) bytes (stateOf state) ++ line 15 (isEntry (counted sheet) size deadline) ∷
-      line 17 (bearable (M (counted sheet)) (queueOf (counted sheet) (moved (counted sheet) (stateOf state) (planByte (counted sheet) bytes (stateOf state)) size deadline))) ∷ []) ×
-      (leb (moved (counted sheet) (stateOf state) (planByte (counted sheet) bytes (stateOf state)) size deadline .energy) 4294967295 ≡ false))
+  pub advance-18 :
+      let s = counted sheet in
+      let x = stateOf state in
+      (a .number ≡ 18) ↔
+      (AllPass (linesTo18 s bytes x size deadline) × (leb (moved s x (planByte s bytes x) size deadline .energy) 4294967295 ≡ false))
   unfolding advanceLines
   advance-18 =
-      tells-at advance-tells (speedLines (counted sheet) bytes (stateOf state) ++ _ ∷ _ ∷ []) 18 _ _
-      (sym (append-assoc (speedLines (counted sheet) bytes (stateOf state)) _ _)) (omega arith)
-      (each-append (Other 18) (speedLines (counted sheet) bytes (stateOf state)) _ (speed-without (counted sheet) bytes (stateOf state) 18 (omega arith) (λ e. omega arith))
+      let s = counted sheet in
+      let x = stateOf state in
+      tells-at advance-tells (linesTo18 s bytes x size deadline) 18 _ _ (sym (append-assoc (speedLines s bytes x) _ _)) (omega arith)
+      (each-append (Other 18) (speedLines s bytes x) _ (speed-without s bytes x 18 (omega arith) (λ e. omega arith))
       (λ e. omega arith, (λ e. omega arith, tt)))
       tt
 

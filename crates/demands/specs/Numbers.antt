@@ -185,6 +185,22 @@ advanceLines s plan x size deadline =
     line 17 (bearable (M s) (queueOf s next)) ∷
     line 18 (leb (next .energy) 4294967295) ∷ []
 
+-- the lines before 14, before 16, before 17 and before 18
+
+abbrev pub linesTo14 : Counted → List ℕ → State → List Line
+linesTo14 s plan x = rowLines s (length plan) ++ line 13 (stateRight s x) ∷ []
+
+abbrev pub linesTo16 : Counted → List ℕ → State → List Line
+linesTo16 s plan x = rowLines s (length plan) ++ line 13 (stateRight s x) ∷ line 14 (not (eqb (x .slot) (s .horizon))) ∷ []
+
+abbrev pub linesTo17 : Counted → List ℕ → State → (size deadline : ℕ) → List Line
+linesTo17 s plan x size deadline = speedLines s plan x ++ line 15 (isEntry s size deadline) ∷ []
+
+abbrev pub linesTo18 : Counted → List ℕ → State → (size deadline : ℕ) → List Line
+linesTo18 s plan x size deadline =
+    let next = moved s x (planByte s plan x) size deadline in
+    speedLines s plan x ++ line 15 (isEntry s size deadline) ∷ line 17 (bearable (M s) (queueOf s next)) ∷ []
+
 -- Reading. "At each field a read answers a value with its next place, or a refusal"
 
 -- the value; of use only where it is not refused

@@ -44,7 +44,8 @@ abbrev pub queueBefore : Sheet → Stepped → (ℕ → Stepped) → ℕ → Que
 queueBefore sheet started stepped t = queueOf (counted sheet) (stateOf (stateBefore started stepped t))
 
 -- the state before slot t of a run
-pub record Stands (sheet : Sheet) (values bytes : List ℕ) {from : State} {arrivals : List ℕ} (run : Run sheet bytes from arrivals) (t : ℕ) : Type 0 where
+pub record Stands (sheet : Sheet) (values bytes : List ℕ) {from : State} {arrivals : List ℕ} (run : Run sheet bytes from arrivals)
+    (t : ℕ) : Type 0 where
   pub slot-is : stateBefore (run .started) (run .stepped) t .slot ≡ t
   -- the energy spent is the sum of the energies of the speeds told
   pub energy-is : stateBefore (run .started) (run .stepped) t .energy ≡ sum (λ u. energyOf (counted sheet) (run .told u .speed)) t
@@ -53,7 +54,8 @@ pub record Stands (sheet : Sheet) (values bytes : List ℕ) {from : State} {arri
   pub has-value : (v : ℕ) × (valueIn values (placeOf sheet t (queueBefore sheet (run .started) (run .stepped) t)) ≡ some v)
 
 -- slot t of a run: neither call is refused, the speed is the plan's, and the next queue is what the slot and the arrival make of this one
-pub record Steps (sheet : Sheet) (bytes : List ℕ) {from : State} {arrivals : List ℕ} (run : Run sheet bytes from arrivals) (t : ℕ) : Type 0 where
+pub record Steps (sheet : Sheet) (bytes : List ℕ) {from : State} {arrivals : List ℕ} (run : Run sheet bytes from arrivals)
+    (t : ℕ) : Type 0 where
   pub speed-answers : run .told t .number ≡ 0
   pub speed-is : run .told t .speed ≡ getD bytes (placeOf sheet t (queueBefore sheet (run .started) (run .stepped) t)) 0
   pub advance-answers : run .stepped t .number ≡ 0
@@ -62,7 +64,8 @@ pub record Steps (sheet : Sheet) (bytes : List ℕ) {from : State} {arrivals : L
       (sizeAt (counted sheet) (getD arrivals t 0)) (deadlineAt (counted sheet) (getD arrivals t 0))
 
 -- the whole run
-pub record NeverRefused (sheet : Sheet) (values bytes : List ℕ) {from : State} {arrivals : List ℕ} (run : Run sheet bytes from arrivals) : Type 0 where
+pub record NeverRefused (sheet : Sheet) (values bytes : List ℕ) {from : State} {arrivals : List ℕ}
+    (run : Run sheet bytes from arrivals) : Type 0 where
   pub start-answers : run .started .number ≡ 0
   pub first-queue : queueBefore sheet (run .started) (run .stepped) 0 ≡ queueOf (counted sheet) (stateOf from)
   pub stands : (t : ℕ) → t ≤ length arrivals → Stands sheet values bytes run t
