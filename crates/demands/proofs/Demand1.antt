@@ -415,7 +415,9 @@ module _ {state : State} {sheet : Sheet} {a : Stepped} (call : Starts state shee
   -- "13: the queue falls or is not bearable, an unused position is not zero"
   pub start-13 : (a .number ≡ 13) ↔ (AllPass (sheetLines (counted sheet)) × (queueRight (counted sheet) (stateOf state) ≡ false))
   unfolding startLines
-  start-13 = tells-at start-tells (sheetLines (counted sheet)) 13 _ [] refl (omega arith) (sheet-without (counted sheet) 13 (omega arith)) tt
+  start-13 =
+      let s = counted sheet in
+      tells-at start-tells (sheetLines s) 13 _ [] refl (omega arith) (sheet-without s 13 (omega arith)) tt
 
 -- speed: "Speed: 4 to 10, 11, 13, 14, 16"
 

@@ -27,8 +27,8 @@ abbrev pub stateBefore : Stepped → (ℕ → Stepped) → ℕ → State
 stateBefore started stepped zero = started .state
 stateBefore started stepped (suc t) = stepped t .state
 
--- a run with this plan from the queue of the state `from`: a start, and then for each arrival, the place of an entry, one speed call and one
--- advance
+-- a run with this plan from the queue of the state `from`: a start, and then for each arrival, which is the place of an entry, one speed
+-- call and one advance
 pub record Run (sheet : Sheet) (bytes : List ℕ) (from : State) (arrivals : List ℕ) : Type 0 where
   pub started : Stepped
   pub told : ℕ → Told
@@ -36,8 +36,8 @@ pub record Run (sheet : Sheet) (bytes : List ℕ) (from : State) (arrivals : Lis
   pub starts : Starts from sheet started
   pub speeds : (t : ℕ) → t < length arrivals → Speeds (stateBefore started stepped t) sheet bytes (told t)
   pub advances : (t : ℕ) → t < length arrivals →
-      Advances (stateBefore started stepped t) sheet bytes (sizeAt (counted sheet) (getD arrivals t 0)) (deadlineAt (counted sheet) (getD arrivals t 0))
-      (stepped t)
+      Advances (stateBefore started stepped t) sheet bytes
+      (sizeAt (counted sheet) (getD arrivals t 0)) (deadlineAt (counted sheet) (getD arrivals t 0)) (stepped t)
 
 -- w(1) to w(D) before slot t
 abbrev pub queueBefore : Sheet → Stepped → (ℕ → Stepped) → ℕ → Queue

@@ -61,7 +61,8 @@ module _ (s : Counted) where
   value-bearable e t w v = good-bearable s (accepted s e .ranged .jobs-low) (s .horizon - t) w (v .1 .way) (v .1 .holds)
 
   -- so that what stands in the places is right where the unused ones are zero
-  pub value-right : sheetRefusal s ≡ 0 → (x : State) → T (unusedZero (s .bound) (x .queue)) → HasValue s 0 (queueOf s x) → T (queueRight s x)
+  pub value-right : sheetRefusal s ≡ 0 → (x : State) → T (unusedZero (s .bound) (x .queue)) → HasValue s 0 (queueOf s x) →
+      T (queueRight s x)
   unfolding bearableIn
   value-right e x unused v = and-both (bearable (M s) (queueOf s x)) _ (value-bearable e 0 (queueOf s x) v) unused
 

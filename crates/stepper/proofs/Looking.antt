@@ -40,7 +40,8 @@ module _ (s : Sheet) where
       sym (first-found (isSpeed a) j (s .«speed_count») below (eq-eqb (speedAt (counted s) j) a (same ∙ here)) h)
 
   -- found nowhere
-  pub speed-nowhere : (a j : ℕ) → firstPlace (isSpeed a) j ≡ j → j ≤ s .«speed_count» → s .«speed_count» ≤ j → j ≡ placeOfSpeed (counted s) a
+  pub speed-nowhere : (a j : ℕ) → firstPlace (isSpeed a) j ≡ j → j ≤ s .«speed_count» → s .«speed_count» ≤ j →
+      j ≡ placeOfSpeed (counted s) a
   speed-nowhere a j below h l =
       let all : j ≡ s .«speed_count» = omega arith in
       sym below ∙ ap (firstPlace (isSpeed a)) all

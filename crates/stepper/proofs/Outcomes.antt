@@ -17,8 +17,8 @@ use Rattle.stepper.specs.Parts.{movedOrRefused}
 use Rattle.stepper.specs.declared.state.State.{State}
 
 -- a start or an advance, by what the model says
-pub stepped-as : {said : model.Stepped} {number : ℕ} {given : model.State} (state : State) → said ≡ record { number = number; state = given } →
-    stateOf state ≡ given → IsStepped said number state
+pub stepped-as : {said : model.Stepped} {number : ℕ} {given : model.State} (state : State) →
+    said ≡ record { number = number; state = given } → stateOf state ≡ given → IsStepped said number state
 stepped-as state e same =
     record { number-is = sym (ap (λ (r : model.Stepped). r .number) e); state-is = same ∙ sym (ap (λ (r : model.Stepped). r .state) e) }
 
@@ -37,8 +37,8 @@ told-refused s plan x e some answer =
     }
 
 -- one that is not refused answers 0 and the plan byte
-pub told-done : (s : Counted) (plan : List ℕ) (x : model.State) {speed : ℕ} → model.speedRefusal s plan x ≡ 0 → speed ≡ model.planByte s plan x →
-    IsTold (model.speed s plan x) 0 speed
+pub told-done : (s : Counted) (plan : List ℕ) (x : model.State) {speed : ℕ} → model.speedRefusal s plan x ≡ 0 →
+    speed ≡ model.planByte s plan x → IsTold (model.speed s plan x) 0 speed
 told-done s plan x e same =
     let said = speed-by s plan x e in
     record { number-is = sym (ap (λ (r : model.Told). r .number) said); speed-is = same ∙ sym (ap (λ (r : model.Told). r .speed) said) }

@@ -62,7 +62,8 @@ below c =
     let a = start .args in
     let s = counted (a .sheet) in
     let long = length-in (s .bound) (a .queue) (omega (arith, accepted s (passed start) .ranged .bound-high)) in
-    let few = number-below (M s) (queueOf s (stateAt (a .slot) (a .queue))) long (held-bearable (M s) (s .bound) (a .queue) (start .pre .3)) in
+    let right = held-bearable (M s) (s .bound) (a .queue) (start .pre .3) in
+    let few = number-below (M s) (queueOf s (stateAt (a .slot) (a .queue))) long right in
     omega (arith, few, numbered c, N-is s)
 
 place-requires : tie.Need-place-requires

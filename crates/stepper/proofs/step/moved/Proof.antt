@@ -55,7 +55,8 @@ returns : tie.Need-returns
 returns c =
     let a = c .before .before .before .before .before .before .args in
     stepped-as (a .state)
-    (moved-17 (counted (a .sheet)) (stateOf (a .state)) (a .speed) (a .size) (a .deadline) (failed-by (asked (c .before)) (c .if1 .taken))) refl
+    (moved-17 (counted (a .sheet)) (stateOf (a .state)) (a .speed) (a .size) (a .deadline)
+    (failed-by (asked (c .before)) (c .if1 .taken))) refl
 
 energy-of-requires : tie.Need-energy-of-requires
 energy-of-requires c κs = search needs

@@ -50,7 +50,8 @@ arrive-requires c κs =
 returns : tie.Need-returns
 returns c =
     let a = c .before .before .before .args in
-    let joined : c .arrive .result ≡ placesOf (arrive (queueIn (a .sheet .bound) (c .before .after .result)) (a .size) (a .deadline)) = c .arrive .ensures in
+    let run-on = queueIn (a .sheet .bound) (c .before .after .result) in
+    let joined : c .arrive .result ≡ placesOf (arrive run-on (a .size) (a .deadline)) = c .arrive .ensures in
     joined ∙ ap (λ (v : Queue). placesOf (arrive v (a .size) (a .deadline))) (left (c .before))
 
 pub next-queue-spec : {M : Type 1} → statement M

@@ -1,5 +1,5 @@
 -- `byte_right` meets its contract: the byte is no sheet speed, or w(1) decides.
-use Prim.Native.Nat.{ℕ}
+use Prim.Native.Nat.{ℕ, _≤_, _<_}
 use mathlib.Core.Path.{sym, ap, _∙_}
 use native.Mathlib.Omega.{arith}
 use borrow.Author.Needs.{needs}
@@ -21,9 +21,11 @@ place-of-requires c κs = search needs
 returns : tie.Need-returns
 returns c =
     let a = c .before .before .before .args in
+    let s = counted (a .sheet) in
+    let past : s .speedCount ≤ placeOfSpeed s (a .byte) = omega (arith, c .if1 .taken, c .before .before .place-of .ensures) in
     sym
-    (wrong-byte (counted (a .sheet)) (stateOf (a .t2)) (a .byte)
-    (on-sheet-place (a .sheet) (a .byte) ∙ le-ltb (placeOfSpeed (counted (a .sheet)) (a .byte)) (a .sheet .«speed_count») (omega (arith, c .if1 .taken, c .before .before .place-of .ensures))))
+    (wrong-byte s (stateOf (a .t2)) (a .byte)
+    (on-sheet-place (a .sheet) (a .byte) ∙ le-ltb (placeOfSpeed s (a .byte)) (s .speedCount) past))
 
 element-copy-out-result : tie.Need-element-copy-out-result
 element-copy-out-result c = search needs
@@ -33,10 +35,12 @@ returns-2 c =
     let start = c .before .before .before .before in
     let a = start .args in
     let s = counted (a .sheet) in
+    let there : placeOfSpeed s (a .byte) < s .speedCount =
+    omega (arith, c .before .if1 .left, c .before .before .before .place-of .ensures) in
     ap (λ (first : ℕ). leb first (a .byte)) (sym (total-in (s .bound) (a .t2 .queue) 1 (ranged s (start .pre) .bound-low))) ∙
     sym
     (first-decides s (stateOf (a .t2)) (a .byte)
-    (on-sheet-place (a .sheet) (a .byte) ∙ lt-ltb (placeOfSpeed s (a .byte)) (a .sheet .«speed_count») (omega (arith, c .before .if1 .left, c .before .before .before .place-of .ensures))))
+    (on-sheet-place (a .sheet) (a .byte) ∙ lt-ltb (placeOfSpeed s (a .byte)) (s .speedCount) there))
 
 pub byte-right-spec : {M : Type 1} → statement M
 byte-right-spec = tie.close (tie.spec place-of-requires returns element-copy-out-result returns-2)

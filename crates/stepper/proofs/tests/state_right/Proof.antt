@@ -49,7 +49,8 @@ returns-3 c =
     ap (λ (most : ℕ). leb (a .state .energy) (a .state .slot * most)) (c .before .before .greatest-of .ensures .1) ∙
     sym
     (energy-decides (counted (a .sheet)) (stateOf (a .state))
-    (passed-by (tested .before .before .before .before .queue-right .ensures) (tested .before .before .before .if1 .left)) (tested .if2 .left))
+    (passed-by (tested .before .before .before .before .queue-right .ensures) (tested .before .before .before .if1 .left))
+    (tested .if2 .left))
 
 pub state-right-spec : {M : Type 1} → statement M
 state-right-spec =

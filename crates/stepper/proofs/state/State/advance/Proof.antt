@@ -99,7 +99,8 @@ returns-3 c =
     let accepted = c .before .before .before in
     let a = accepted .before .before .before .before .args in
     subst (λ (said : Stepped). IsStepped said (c .moved .result .number) (c .moved .result .state))
-    (moved-advances (counted (a .sheet)) (stateOf (a .self)) _ (a .size) (a .deadline) (a .plan .now) (byte accepted) (passed accepted) (entry (c .before)))
+    (moved-advances (counted (a .sheet)) (stateOf (a .self)) _ (a .size) (a .deadline) (a .plan .now) (byte accepted) (passed accepted)
+    (entry (c .before)))
     (c .moved .ensures)
 
 pub advance-spec : {M : Type 1} → statement M

@@ -45,7 +45,8 @@ byte : (c : tie.After-byte-right) →
     c .before .plan-byte .result ≡ planByte (counted (a .sheet)) (a .plan .now) (stateOf (a .self))
 byte c =
     let a = c .before .before .before .before .before .before .before .before .before .before .before .before .before .before .args in
-    c .before .plan-byte .ensures ∙ byte-at (counted (a .sheet)) (a .plan .now) _ ∙ sym (byte-at (counted (a .sheet)) (a .plan .now) (stateOf (a .self)))
+    let s = counted (a .sheet) in
+    c .before .plan-byte .ensures ∙ byte-at s (a .plan .now) _ ∙ sym (byte-at s (a .plan .now) (stateOf (a .self)))
 
 table-requires : tie.Need-table-requires
 table-requires c κs = search needs
@@ -126,7 +127,8 @@ returns-4 c =
     let a = asked .before .before .before .before .before .before .before .before .before .before .before .before .before .before .args in
     let s = counted (a .sheet) in
     told-refused s (a .plan .now) (stateOf (a .self))
-    (number asked ∙ check-false (asked .byte-right .result) 16 (failed-by refl (c .before .if4 .taken))) (λ e. omega arith) (c .refused4 .ensures)
+    (number asked ∙ check-false (asked .byte-right .result) 16 (failed-by refl (c .before .if4 .taken))) (λ e. omega arith)
+    (c .refused4 .ensures)
 
 returns-5 : tie.Need-returns-5
 returns-5 c =

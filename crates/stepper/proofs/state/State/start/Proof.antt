@@ -46,7 +46,8 @@ returns-2 c =
     let a = told .before .before .before .before .before .args in
     stepped-as (c .zero-state2 .result)
     (start-by (counted (a .sheet)) (stateOf (a .self))
-    (start-13 (counted (a .sheet)) (stateOf (a .self)) (passed (told .before)) (failed-by (told .queue-right .ensures) (c .before .if2 .taken))))
+    (start-13 (counted (a .sheet)) (stateOf (a .self)) (passed (told .before))
+    (failed-by (told .queue-right .ensures) (c .before .if2 .taken))))
     (c .zero-state2 .ensures)
 
 returns-3 : tie.Need-returns-3
@@ -55,7 +56,8 @@ returns-3 c =
     let a = told .before .before .before .before .before .args in
     stepped-as _
     (start-by (counted (a .sheet)) (stateOf (a .self))
-    (start-0 (counted (a .sheet)) (stateOf (a .self)) (passed (told .before)) (passed-by (told .queue-right .ensures) (c .before .if2 .left))))
+    (start-0 (counted (a .sheet)) (stateOf (a .self)) (passed (told .before))
+    (passed-by (told .queue-right .ensures) (c .before .if2 .left))))
     refl
 
 pub start-spec : {M : Type 1} → statement M
