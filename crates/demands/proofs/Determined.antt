@@ -136,8 +136,8 @@ pub start-is : {state : State} {sheet : Sheet} {answer : Stepped} → Starts sta
 start-is {state = state} {answer = answer} call =
     let promised : State → Sheet → Type 0 =
     λ x s. IsStepped (model-stepper.start (counted s) (stateOf x)) (answer .number) (answer .state) in
-    let of-state = subst (λ (x : State). promised x (call .lent .1 .0)) (call .state-given) (call .contract) in
-    subst (λ (s : Sheet). promised state s) (call .sheet-given) of-state
+    let of-state = subst (λ (x : State). promised x (call .lent .1 .0)) (call .state-started) (call .contract) in
+    subst (λ (s : Sheet). promised state s) (call .sheet-started) of-state
 
 -- sheets with equal views and the same state: the same answer
 pub start-determined : {state : State} {s t : Sheet} {a b : Stepped} → counted s ≡ counted t → Starts state s a → Starts state t b → a ≡ b
@@ -154,8 +154,8 @@ speed-is {state = state} {sheet = sheet} {answer = answer} call =
     let promised : State → Sheet → List ℕ → Type 0 =
     λ x s l. IsTold (model-stepper.speed (counted s) l (stateOf x)) (answer .number) (answer .speed) in
     let plan = now (call .lent .1 .1 .0) in
-    let of-state = subst (λ (x : State). promised x (call .lent .1 .0) plan) (call .state-given) (call .contract) in
-    let of-sheet = subst (λ (s : Sheet). promised state s plan) (call .sheet-given) of-state in
+    let of-state = subst (λ (x : State). promised x (call .lent .1 .0) plan) (call .state-asked) (call .contract) in
+    let of-sheet = subst (λ (s : Sheet). promised state s plan) (call .sheet-told) of-state in
     subst (λ (l : List ℕ). promised state sheet l) (call .plan-lent) of-sheet
 
 -- sheets with equal views, the same state and the same plan: the same answer
@@ -179,9 +179,9 @@ advance-is {state = state} {sheet = sheet} {bytes = bytes} {size = size} {answer
     let plan = now (call .lent .1 .1 .0) in
     let arriving = call .lent .1 .1 .1 .0 in
     let due = call .lent .1 .1 .1 .1 .0 in
-    let of-state = subst (λ (x : State). promised x (call .lent .1 .0) plan arriving due) (call .state-given) (call .contract) in
-    let of-sheet = subst (λ (s : Sheet). promised state s plan arriving due) (call .sheet-given) of-state in
-    let of-plan = subst (λ (l : List ℕ). promised state sheet l arriving due) (call .plan-lent) of-sheet in
+    let of-state = subst (λ (x : State). promised x (call .lent .1 .0) plan arriving due) (call .state-advanced) (call .contract) in
+    let of-sheet = subst (λ (s : Sheet). promised state s plan arriving due) (call .sheet-advanced) of-state in
+    let of-plan = subst (λ (l : List ℕ). promised state sheet l arriving due) (call .plan-followed) of-sheet in
     let of-size = subst (λ (c : ℕ). promised state sheet bytes c due) (call .size-is) of-plan in
     subst (λ (d : ℕ). promised state sheet bytes size d) (call .deadline-is) of-size
 

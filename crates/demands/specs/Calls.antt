@@ -82,8 +82,8 @@ pub record Starts (state : State) (sheet : Sheet) (answer : Stepped) : Type 0 wh
   pub lifetimes : Lfts 0
   pub lent : Dens lifetimes start-kinds.ps
   pub at-exit : AtExit (endedOf 0 start-kinds.ps start-kinds.r) lifetimes
-  pub state-given : lent .0 ≡ state
-  pub sheet-given : lent .1 .0 ≡ sheet
+  pub state-started : lent .0 ≡ state
+  pub sheet-started : lent .1 .0 ≡ sheet
   pub contract : start.Post lifetimes lent answer at-exit
 
 -- `speed` of this state was given this sheet and lent this plan; it answered this
@@ -91,8 +91,8 @@ pub record Speeds (state : State) (sheet : Sheet) (bytes : List ℕ) (answer : T
   pub lifetimes : Lfts 1
   pub lent : Dens lifetimes speed-kinds.ps
   pub at-exit : AtExit (endedOf 1 speed-kinds.ps speed-kinds.r) lifetimes
-  pub state-given : lent .0 ≡ state
-  pub sheet-given : lent .1 .0 ≡ sheet
+  pub state-asked : lent .0 ≡ state
+  pub sheet-told : lent .1 .0 ≡ sheet
   pub plan-lent : now (lent .1 .1 .0) ≡ bytes
   pub contract : speed.Post lifetimes lent answer at-exit
 
@@ -101,9 +101,9 @@ pub record Advances (state : State) (sheet : Sheet) (bytes : List ℕ) (size dea
   pub lifetimes : Lfts 1
   pub lent : Dens lifetimes advance-kinds.ps
   pub at-exit : AtExit (endedOf 1 advance-kinds.ps advance-kinds.r) lifetimes
-  pub state-given : lent .0 ≡ state
-  pub sheet-given : lent .1 .0 ≡ sheet
-  pub plan-lent : now (lent .1 .1 .0) ≡ bytes
+  pub state-advanced : lent .0 ≡ state
+  pub sheet-advanced : lent .1 .0 ≡ sheet
+  pub plan-followed : now (lent .1 .1 .0) ≡ bytes
   pub size-is : lent .1 .1 .1 .0 ≡ size
   pub deadline-is : lent .1 .1 .1 .1 .0 ≡ deadline
   pub contract : advance.Post lifetimes lent answer at-exit
