@@ -13,3 +13,4 @@ pub mod PlanInOrder
 pub mod Demand1
 pub mod Hopeless
 pub mod Stepping
+pub mod SpendsLeast

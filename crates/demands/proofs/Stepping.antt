@@ -55,7 +55,7 @@ module _ {sheet : Sheet} {values₀ plan₀ values bytes : List ℕ} {a : PlanAn
       (value-right call planned w right long t l) (h .1)
 
   -- and its bytes are right
-  right-plan : RightPlan s bytes
+  pub right-plan : RightPlan s bytes
   right-plan t l w long right h =
       subst (λ (r : Option ℕ). IsPlanByte s t w r (getD bytes (placeOf sheet t w) 0)) (value-there t w (le-of-lt l) long right h)
       (byte-right call planned w right long t l)
@@ -112,7 +112,8 @@ module _ {sheet : Sheet} {values₀ plan₀ values bytes : List ℕ} {a : PlanAn
           )
 
       -- the advance
-      stepped-so : (run .stepped t .number ≡ 0) × (state (suc t) ≡ model.moved s (state t) byte size deadline) × Going s (suc t) (state (suc t))
+      stepped-so : (run .stepped t .number ≡ 0) × (state (suc t) ≡ model.moved s (state t) byte size deadline) ×
+          Going s (suc t) (state (suc t))
       stepped-so =
           let promised = advance-is (run .advances t h) in
           let law = stepping.stepped s bytes has-room right-plan t before-end (state t) g (getD arrivals t 0) (entries t h) in
@@ -133,7 +134,7 @@ module _ {sheet : Sheet} {values₀ plan₀ values bytes : List ℕ} {a : PlanAn
           ap (λ (speed : ℕ). oneSlot w speed size deadline) (sym (told-so .1))
 
     -- stepping goes on before every slot
-    going : (t : ℕ) → t ≤ length arrivals → Going s t (state t)
+    pub going : (t : ℕ) → t ≤ length arrivals → Going s t (state t)
     going zero h = begun .2
     going (suc t) h = stepped-so t h (going t (le-of-lt h)) .2
 
@@ -148,7 +149,7 @@ module _ {sheet : Sheet} {values₀ plan₀ values bytes : List ℕ} {a : PlanAn
         omega (arith, ap (λ (x : model.State). x .energy) next, energy-sum t (le-of-lt h), spent)
 
     -- the queue has D positions
-    long : (t : ℕ) → t ≤ length arrivals → length (model.queueOf s (state t)) ≡ s .bound
+    pub long : (t : ℕ) → t ≤ length arrivals → length (model.queueOf s (state t)) ≡ s .bound
     long t h = length-in (s .bound) (state t .queue) (omega (arith, going t h .six, accepted s passed .ranged .bound-high))
 
     -- the state before slot t

@@ -1,18 +1,21 @@
 -- Stepping with a right plan is never refused (specs/Stepper.antt): from a queue that has a value, start, speed and each advance by an
--- entry of the sheet answer 0, and the next queue has a value again; at the horizon the answer is 14. Callers' proofs cite these laws,
--- and not the stepper's definitions.
+-- entry of the sheet answer 0, and the next queue has a value again; at the horizon the answer is 14, and what was
+-- spent is what a least good way spends along the same entries. Callers' proofs cite these laws, and not the stepper's definitions.
 use Prim.Native.Nat.{ℕ, suc, _+_, _*_, _-_, _≤_, _<_, zero-le}
 use mathlib.Core.Path.{_≡_, refl, sym, ap, _∙_, subst}
 use mathlib.Core.Bool.{not, _&&_}
 use mathlib.Core.List.{List}
 use mathlib.Core.Option.{some}
-use native.Mathlib.Nat.{le-refl, le-of-lt, mul-le-mul}
+use native.Mathlib.Nat.{le-refl, le-of-lt, mul-le-mul, sub-zero}
 use native.Mathlib.Omega.{arith}
 use borrow.Author.Tests.{eq-eqb, ne-eqb}
 use lib.Dec.{T, leb, eqb, le→leb, eqb-refl}
 use lib.ListN.{length, getD}
-use Rattle.process.specs.Ways.{IsFirst}
-use Rattle.process.proofs.Value.{first-step}
+use Rattle.process.specs.Recursion as recursion
+use Rattle.process.specs.Recursion.{ruled}
+use Rattle.process.specs.Sums.{sum}
+use Rattle.process.specs.Ways.{Way, spent, IsValue, IsLeast, IsFirst}
+use Rattle.process.proofs.Value.{first-step, plan-least, value-some-is, first-plan, SlotByRule, spent-by-rule}
 use Rattle.model.specs.Counted.{Counted, sizeAt, deadlineAt, weightAt, onSheet, energyOf, greatestEnergy, M}
 use Rattle.model.specs.Plan.{nextQueue, processOf, IsValueAt, placeAt, rowRefusal}
 use Rattle.model.specs.Queue.{Queue, total, positions, queueIn, placesOf, bearable, unusedZero, bearableIn, oneSlot, numberOf}
@@ -22,7 +25,7 @@ use Rattle.model.specs.Tests.{check, _then_}
 use Rattle.model.proofs.Admissible.{good-bearable}
 use Rattle.model.proofs.Counted.{on-sheet, energy-of-upto}
 use Rattle.model.proofs.Queues.{length-slot, held-bearable, length-in, length-places, in-first-places, places-hold}
-use Rattle.model.proofs.Refusal.{Ranged, accepted, greatest-energy-high}
+use Rattle.model.proofs.Refusal.{Ranged, accepted, speeds-rise, greatest-energy-high}
 use Rattle.model.proofs.Rooms.{row-accepted}
 use Rattle.model.proofs.Stepper.{state-right, start-by, speed-in-parts, speed-by, advance-by}
 use Rattle.model.proofs.Tests.{and-both, anywhere-one, check-passes, then-both, then-on, then-passes, then-holds, then-fails, then-stops}
@@ -215,3 +218,65 @@ module _ (s : Counted) where
           record { number = 0; state = moved s x (planByte s plan x) (sizeAt s i) (deadlineAt s i) }) ×
           Going s (suc t) (moved s x (planByte s plan x) (sizeAt s i) (deadlineAt s i))
       stepped = (advance-by s plan x (sizeAt s i) (deadlineAt s i) advance-zero, next-going)
+
+  -- stepping to the horizon with a right plan spends the least
+
+  -- the speed that the recursion plans for a queue, with so many slots left
+  abbrev planned : ℕ → Queue → ℕ
+  planned = recursion.plan (processOf s) (s .jobCount) (weightAt s)
+
+  -- the way that takes these speeds from slot 0 to the horizon
+  abbrev pub plannedWay : Queue → Way
+  plannedWay w = ruled (processOf s) planned (s .horizon) w
+
+  -- from a queue that has a value it is a least good way
+  pub planned-least : sheetRefusal s ≡ 0 → (w : Queue) → HasValue s 0 w →
+      IsLeast (processOf s) (s .jobCount) (weightAt s) (s .horizon) w (plannedWay w)
+  planned-least e w v =
+      let jobs-low = accepted s e .ranged .jobs-low in
+      let is-value = subst (λ (k : ℕ). IsValue (processOf s) (s .jobCount) (weightAt s) k w (some (v .0))) (sub-zero (s .horizon)) (v .1) in
+      plan-least (processOf s) (s .jobCount) (weightAt s) jobs-low (s .horizon) w (v .0)
+      (value-some-is (processOf s) (s .jobCount) (weightAt s) jobs-low (s .horizon) w (v .0) is-value)
+
+  -- a right plan holds these speeds
+  right-planned : sheetRefusal s ≡ 0 → (plan : List ℕ) → RightPlan s plan →
+      (t : ℕ) → t < s .horizon → (w : Queue) → length w ≡ s .bound → HasValue s t w →
+      getD plan (placeAt s t (numberOf (M s) w)) 0 ≡ planned (s .horizon - t) w
+  unfolding processOf
+  right-planned e plan right-plan t h w long v =
+      let byte = getD plan (placeAt s t (numberOf (M s) w)) 0 in
+      let slots : suc (s .horizon - suc t) ≡ s .horizon - t = omega arith in
+      let ranges = accepted s e .ranged in
+      subst (λ (k : ℕ). IsFirst (processOf s) (s .jobCount) (weightAt s) k w byte → byte ≡ planned k w) slots
+      (first-plan (processOf s) (s .jobCount) (weightAt s) (ranges .jobs-low) (speeds-rise s ranges) (s .horizon - suc t) w byte)
+      (right-plan t h w long (value-bearable e t w v) v)
+
+  -- so, from slot to slot along entries up to the horizon, the energies of its speeds come to what that way spends along them
+  pub spends-planned : sheetRefusal s ≡ 0 → (plan : List ℕ) → RightPlan s plan →
+      (arrivals : List ℕ) → length arrivals ≡ s .horizon → (queue : ℕ → Queue) (speedIn : ℕ → ℕ) →
+      ((t : ℕ) → t < length arrivals →
+      (length (queue t) ≡ s .bound) × HasValue s t (queue t) ×
+      (speedIn t ≡ getD plan (placeAt s t (numberOf (M s) (queue t))) 0) ×
+      (queue (suc t) ≡ oneSlot (queue t) (speedIn t) (sizeAt s (getD arrivals t 0)) (deadlineAt s (getD arrivals t 0)))) →
+      sum (λ t. energyOf s (speedIn t)) (length arrivals) ≡ spent (processOf s) (queue 0) (plannedWay (queue 0)) arrivals
+  unfolding processOf nextQueue sum
+  spends-planned e plan right-plan arrivals last queue speedIn slots =
+      omega (
+        arith,
+        spent-by-rule (processOf s) planned arrivals queue energyBefore slot,
+        ap (λ (T : ℕ). spent (processOf s) (queue 0) (ruled (processOf s) planned T (queue 0)) arrivals) last,
+      )
+    where
+      energyBefore : ℕ → ℕ
+      energyBefore = sum (λ t. energyOf s (speedIn t))
+
+      slot : (t : ℕ) → t < length arrivals →
+          SlotByRule (processOf s) planned (length arrivals - t) (getD arrivals t 0) (queue t) (queue (suc t))
+          (energyBefore t) (energyBefore (suc t))
+      slot t h =
+          let here = slots t h in
+          let speed-is = here .2 ∙ right-planned e plan right-plan t (omega arith) (queue t) (here .0) (here .1) ∙
+          ap (λ (T : ℕ). planned (T - t) (queue t)) (sym last) in (
+            here .3 ∙ ap (λ (speed : ℕ). nextQueue s (queue t) speed (getD arrivals t 0)) speed-is,
+            ap (λ (speed : ℕ). energyBefore t + energyOf s speed) speed-is,
+          )

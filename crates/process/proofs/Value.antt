@@ -1,23 +1,23 @@
 -- That the backward induction of specs/Recursion.antt answers the published problem of specs/Ways.antt: its value is the least scaled
 -- energy of a good way, or none where no way is good, and its plan begins a least good way with the smallest action.
-use Prim.Native.Nat.{ℕ, zero, suc, _+_, _*_, _^_, _≤_, _<_}
+use Prim.Native.Nat.{ℕ, zero, suc, _+_, _*_, _-_, _^_, _≤_, _<_}
 use mathlib.Core.Path.{_≡_, refl, ap, _∙_, subst, fun-ext}
 use mathlib.Core.Bool.{Bool, true, false}
 use mathlib.Core.List.{List, [], _∷_}
 use mathlib.Core.Option.{Option, none, some, Option·getD, Option·some-injective, Option·none-ne-some}
 use mathlib.Core.Logic.{_⊎_, inl, inr, ⊎-elim, _↔_}
 use native.Mathlib.Nat.{pow-suc, mul-right-comm, one-mul, mul-le-mul-left, le-refl}
-use native.Mathlib.Nat.{le-of-lt, add-le-add, not-suc-le-zero, le-of-suc-le-suc, eq-or-lt-of-le}
+use native.Mathlib.Nat.{le-of-lt, add-le-add, not-suc-le-zero, le-of-suc-le-suc, eq-or-lt-of-le, sub-zero, suc-sub-suc}
 use native.Mathlib.Omega.{arith}
 use lib.Dec.{T}
 use lib.ListN.{length, getD, replicate}
 use borrow.Author.Tests.{ltb-true, ltb-false}
 use Rattle.process.specs.Sums.{sum, Events, overLists, weight}
-use Rattle.process.specs.Ways.{Process, Way, later, Among, Along, Good, spent, energy, IsValue, IsCost, IsFirst}
+use Rattle.process.specs.Ways.{Process, Way, later, Among, Along, Good, spent, energy, IsValue, IsCost, IsLeast, IsFirst}
 use Rattle.process.specs.Recursion.{plus, times, sumOrNone, only, Choice, nothing, chosen, choose, cheaper, better}
 use Rattle.process.specs.Recursion.{best, worth, actionOf, priced, choice, value, plan, ruled}
 use Rattle.process.specs.Pairing.{Rising}
-use Rattle.process.proofs.Definite.{value-unique}
+use Rattle.process.proofs.Definite.{value-unique, first-unique}
 use Rattle.process.proofs.Sums.{sum-same, sum-add, sum-times, over-add, over-times, weights-total}
 
 -- a number that is at most u, where there is one; what none gives is a parameter
@@ -330,6 +330,12 @@ module _ {S : Type 0} (P : Process S) (n : ℕ) (w : ℕ → ℕ) where
       begin [] = a
       begin (i ∷ seen) = ruled P (plan P n w) k (P .next x a i) seen
 
+  -- where there is a value, the plan's own way is a least good way
+  pub plan-least : 0 < n → (k : ℕ) (x : S) (v : ℕ) → value P n w k x ≡ some v → IsLeast P n w k x (ruled P (plan P n w) k x)
+  plan-least h k x v e =
+      let r = reach k x v e in
+      record { good = r .0; least = λ τ g. rw (r .1) (rw e at (lower h k x τ g)) }
+
   -- the plan's action is the smallest first action of a least good way
   pub first-is : 0 < n → Rising (P .actions) → (k : ℕ) (x : S) (v : ℕ) → value P n w (suc k) x ≡ some v →
       IsFirst P n w (suc k) x (plan P n w (suc k) x)
@@ -339,7 +345,7 @@ module _ {S : Type 0} (P : Process S) (n : ℕ) (w : ℕ → ℕ) where
       let r = reach (suc k) x v e in
       record {
         way = ruled P (plan P n w) (suc k) x;
-        least = record { good = r .0; least = λ τ g. rw (r .1) (rw e at (lower h (suc k) x τ g)) };
+        least = plan-least h (suc k) x v e;
         begins = refl;
         smallest = λ σ s.
             let t = good-step h k x σ (s .good) in
@@ -368,3 +374,31 @@ module _ {S : Type 0} (P : Process S) (n : ℕ) (w : ℕ → ℕ) where
       subst
       (λ (b : ℕ). Among (P .actions) b × T (P .allowed x b) × ((i : ℕ) → i < n → (v : ℕ) × IsValue P n w k (P .next x b i) (some v)))
       (f .begins) (t .1, t .2, λ i l. good-value h k _ _ (t .3 i l))
+
+  -- where there is a value, the recursion finds it
+  pub value-some-is : 0 < n → (k : ℕ) (x : S) (v : ℕ) → IsValue P n w k x (some v) → value P n w k x ≡ some v
+  value-some-is h k x v is = value-unique P n w k x (value P n w k x) (some v) (value-is h k x) is
+
+  -- and the smallest first action of a least good way is the plan's
+  pub first-plan : 0 < n → Rising (P .actions) → (k : ℕ) (x : S) (a : ℕ) → IsFirst P n w (suc k) x a → a ≡ plan P n w (suc k) x
+  first-plan h rising k x a f =
+      let v = good-value h (suc k) x (f .way) (f .least .good) in
+      first-unique P n w f (first-is h rising k x (v .0) (value-some-is h (suc k) x (v .0) (v .1)))
+
+module _ {S : Type 0} (P : Process S) (rule : ℕ → S → ℕ) where
+  -- one slot by a rule, with k slots left, this one counted: the event i and the rule's action make y of the state x, and the action's cost
+  -- is added to what was spent before
+  abbrev pub SlotByRule : (k i : ℕ) (x y : S) (before after : ℕ) → Type 0
+  SlotByRule k i x y before after = (y ≡ P .next x (rule k x) i) × (after ≡ before + P .cost x (rule k x))
+
+  -- slot by slot along a list of events, what is spent comes to what the rule's way spends along that list
+  pub spent-by-rule : (l : List ℕ) (state : ℕ → S) (energyBefore : ℕ → ℕ) →
+      ((t : ℕ) → t < length l → SlotByRule (length l - t) (getD l t 0) (state t) (state (suc t)) (energyBefore t) (energyBefore (suc t))) →
+      energyBefore (length l) + P .last (state (length l)) ≡ energyBefore 0 + spent P (state 0) (ruled P rule (length l) (state 0)) l
+  unfolding spent ruled
+  spent-by-rule [] state energyBefore slots = refl
+  spent-by-rule (i ∷ l) state energyBefore slots =
+      let first = rw sub-zero at (slots 0 (omega arith)) in
+      let rest =
+      spent-by-rule l (λ t. state (suc t)) (λ t. energyBefore (suc t)) (λ t h. rw suc-sub-suc at (slots (suc t) (omega arith))) in
+      omega (arith, first .1, rest, ap (λ (x : S). spent P x (ruled P rule (length l) x) l) (first .0))
