@@ -36,7 +36,7 @@ use Rattle.stepper.specs.declared.state.State.{State}
 use Rattle.stepper.specs.declared.state.Stepped.{Stepped}
 use Rattle.stepper.specs.declared.state.Told.{Told}
 use Rattle.demands.specs.Calls.{Reads, Writes, Plans, Rows, Starts, Speeds, Advances}
-use Rattle.demands.specs.Numbers.{Line, line, AllPass, FailsFirst, Tells, PlanTells, OneOf, linesOfJob, fieldLines, linesToSpeedCount, linesToSpeed, linesToEnergy, linesToHorizon, linesToJobCount, linesToJob, limitLines, nothing, sheetLines, writeLines, planLines, rowLines, startLines, speedLines, advanceLines, linesTo14, linesTo16, linesTo17, linesTo18, sheetIn, endOf, reading, readLines}
+use Rattle.demands.specs.Numbers.{Line, line, AllPass, FailsFirst, Tells, PlanTells, OneOf, linesOfJob, fieldLines, linesToSpeedCount, linesToSpeed, linesToEnergy, linesToHorizon, linesToJobCount, linesToJob, limitLines, nothing, sheetLines, writeLines, planLines, rowLines, startLines, speedLines, advanceLines, linesTo9, linesTo14, linesTo16, linesTo17, linesTo18, sheetIn, endOf, reading, readLines}
 use Rattle.demands.proofs.Demand2.{planned-filled}
 use Rattle.demands.proofs.Determined.{answered, read-is, write-is, plan-is, row-is, start-is, speed-is, advance-is}
 use Rattle.demands.proofs.InOrder.{Each, Other, all-front, each-append, all-or-fails, fails-at, tells-at, fails-front, tells-front, tells-so, one-of, one-of-range}
@@ -127,13 +127,9 @@ fields-other : (bytes : List ℕ) (n : ℕ) → 2 < n → ((m : ℕ) → 4 ≤ m
     Each (Other n) (fieldLines (reading bytes) (sheetIn bytes))
 fields-other bytes n h other = fields-numbers (Other n) (reading bytes) (sheetIn bytes) (λ k. reading-other bytes n k h) other
 
--- the lines of a read up to 3
-abbrev pub linesTo3 : List ℕ → List Line
-linesTo3 bytes = fieldLines (reading bytes) (sheetIn bytes) ++ line 3 (leb (length bytes) (endOf bytes)) ∷ []
-
 -- none of them is above 8
-to-3-other : (bytes : List ℕ) (n : ℕ) → 8 < n → Each (Other n) (linesTo3 bytes)
-to-3-other bytes n h =
+to-9-other : (bytes : List ℕ) (n : ℕ) → 8 < n → Each (Other n) (linesTo9 bytes)
+to-9-other bytes n h =
     each-append (Other n) (fieldLines (reading bytes) (sheetIn bytes)) _ (fields-other bytes n (omega arith) (λ m l k e. omega arith))
     (λ e. omega arith, tt)
 
@@ -159,6 +155,14 @@ module _ {bytes : List ℕ} {a : ReadSheet} (call : Reads bytes a) where
   read-gives =
       let numbers : List ℕ = 0 ∷ 1 ∷ 2 ∷ 3 ∷ 4 ∷ 5 ∷ 6 ∷ 7 ∷ 8 ∷ 9 ∷ 10 ∷ [] in
       tells-so (OneOf numbers) (read-tells call) (read-numbers (OneOf numbers) bytes (one-of-range numbers 1 10 tt)) (inl refl)
+
+  -- "1: the bytes end inside a number or before a field": of some number of the bytes, every earlier line passing
+  pub read-1 : (a .number ≡ 1) ↔ FailsFirst (readLines bytes) 1
+  read-1 = read-tells call .refused 1 (omega arith)
+
+  -- "2: a number is not in shortest form, or its third byte has the high bit": likewise
+  pub read-2 : (a .number ≡ 2) ↔ FailsFirst (readLines bytes) 2
+  read-2 = read-tells call .refused 2 (omega arith)
 
   -- "3: bytes follow the last field"
   pub read-3 : (a .number ≡ 3) ↔ (AllPass (fieldLines (reading bytes) (sheetIn bytes)) × (leb (length bytes) (endOf bytes) ≡ false))
@@ -216,23 +220,23 @@ module _ {bytes : List ℕ} {a : ReadSheet} (call : Reads bytes a) where
       fields-8 (reading bytes) (sheetIn bytes) _ (read-tells call) (λ k. reading-other bytes 8 k (omega arith))
       (after-fields-other bytes 8 (omega arith) (omega arith))
 
-  -- the lines up to 3, and then 9 and 10
-  to-3-told : Tells (a .number) (linesTo3 bytes ++ limitLines (sheetIn bytes))
+  -- the lines before 9, and then 9 and 10
+  to-9-told : Tells (a .number) (linesTo9 bytes ++ limitLines (sheetIn bytes))
   unfolding readLines
-  to-3-told = rw (append-assoc (fieldLines (reading bytes) (sheetIn bytes))) (read-tells call)
+  to-9-told = rw (append-assoc (fieldLines (reading bytes) (sheetIn bytes))) (read-tells call)
 
   -- "9: T times G times W to the power T exceeds 2^63-1"
   pub read-9 :
       let s = sheetIn bytes in
-      (a .number ≡ 9) ↔ (AllPass (linesTo3 bytes) × (leb (s .horizon * G s * W s ^ s .horizon) valueLimit ≡ false))
-  read-9 = limits-9 (linesTo3 bytes) (sheetIn bytes) to-3-told (to-3-other bytes 9 (omega arith))
+      (a .number ≡ 9) ↔ (AllPass (linesTo9 bytes) × (leb (s .horizon * G s * W s ^ s .horizon) valueLimit ≡ false))
+  read-9 = limits-9 (linesTo9 bytes) (sheetIn bytes) to-9-told (to-9-other bytes 9 (omega arith))
 
   -- "10: N above 65,535"
   pub read-10 :
       let s = sheetIn bytes in
       (a .number ≡ 10) ↔
-      (AllPass (linesTo3 bytes ++ line 9 (leb (s .horizon * G s * W s ^ s .horizon) valueLimit) ∷ []) × (leb (N s) 65535 ≡ false))
-  read-10 = limits-10 (linesTo3 bytes) (sheetIn bytes) to-3-told (to-3-other bytes 10 (omega arith))
+      (AllPass (linesTo9 bytes ++ line 9 (leb (s .horizon * G s * W s ^ s .horizon) valueLimit) ∷ []) × (leb (N s) 65535 ≡ false))
+  read-10 = limits-10 (linesTo9 bytes) (sheetIn bytes) to-9-told (to-9-other bytes 10 (omega arith))
 
 -- write: "Planner, writer and row: 4 to 10, 11"
 

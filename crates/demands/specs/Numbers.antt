@@ -287,3 +287,7 @@ readLines bytes =
     fieldLines (reading bytes) s ++
     line 3 (leb (length bytes) (endOf bytes)) ∷
     limitLines s
+
+-- the lines of a read before 9
+abbrev pub linesTo9 : List ℕ → List Line
+linesTo9 bytes = fieldLines (reading bytes) (sheetIn bytes) ++ line 3 (leb (length bytes) (endOf bytes)) ∷ []
