@@ -13,7 +13,7 @@ use lib.ListN.{length, getD}
 use Rattle.process.specs.Ways.{Way, Good}
 use Rattle.process.proofs.Definite.{value-unique}
 use Rattle.model.specs.Counted.{Counted, counted, weightAt, M}
-use Rattle.model.specs.Plan.{processOf, IsValueAt, IsPlanByte, valueIn, queueAt, valuesNeeded, planNeeded, planRefusal, FromEmpty, Filled, LeavesBy}
+use Rattle.model.specs.Plan.{processOf, IsValueAt, IsPlanByte, valueIn, queueAt, valuesNeeded, planNeeded, planRefusal, FromEmpty, Filled, LeavesBy, placeOfQueue}
 use Rattle.model.specs.Plan as model-plan
 use Rattle.model.specs.Queue.{Queue, bearable, numberOf}
 use Rattle.model.specs.Refusal.{N, sheetRefusal}
@@ -22,7 +22,6 @@ use Rattle.model.proofs.Queues.{number-below, number-place}
 use Rattle.model.proofs.Rooms.{plan-fits}
 use Rattle.planner.specs.declared.calls.PlanAnswer.{PlanAnswer}
 use Rattle.demands.specs.Calls.{Plans}
-use Rattle.demands.specs.Runs.{placeOf}
 use Rattle.demands.proofs.Determined.{answered, plan-is}
 
 -- when a plan is not refused
@@ -76,37 +75,37 @@ module _ {sheet : Sheet} {values₀ plan₀ values bytes : List ℕ} {a : PlanAn
   here = number-place (M (counted sheet)) w positions is-bearable
 
   -- the value's place says the least scaled energy over all good ways from this slot and queue, or none
-  pub value-right : (t : ℕ) → t ≤ sheet .horizon → IsValueAt (counted sheet) t w (valueIn values (placeOf sheet t w))
+  pub value-right : (t : ℕ) → t ≤ sheet .horizon → IsValueAt (counted sheet) t w (valueIn values (placeOfQueue (counted sheet) t w))
   value-right t h = ⊎-elim at-end before (eq-or-lt-of-le h)
     where
       f : Filled valueIn (counted sheet) values₀ plan₀ values bytes (answered a)
       f = planned-filled call planned
 
-      before : t < sheet .horizon → IsValueAt (counted sheet) t w (valueIn values (placeOf sheet t w))
+      before : t < sheet .horizon → IsValueAt (counted sheet) t w (valueIn values (placeOfQueue (counted sheet) t w))
       before l =
           let d = f .rows t (numberOf (M (counted sheet)) w) l below in
           subst (IsValueAt (counted sheet) t w) (sym (d .in-values))
           (subst (λ (q : Queue). IsValueAt (counted sheet) t q (d .r)) here (d .is-value))
 
-      at-end : t ≡ sheet .horizon → IsValueAt (counted sheet) t w (valueIn values (placeOf sheet t w))
+      at-end : t ≡ sheet .horizon → IsValueAt (counted sheet) t w (valueIn values (placeOfQueue (counted sheet) t w))
       at-end e =
-          subst (λ (u : ℕ). IsValueAt (counted sheet) u w (valueIn values (placeOf sheet u w))) (sym e)
-          (subst (λ (q : Queue). IsValueAt (counted sheet) (sheet .horizon) q (valueIn values (placeOf sheet (sheet .horizon) w))) here
+          subst (λ (u : ℕ). IsValueAt (counted sheet) u w (valueIn values (placeOfQueue (counted sheet) u w))) (sym e)
+          (subst (λ (q : Queue). IsValueAt (counted sheet) (sheet .horizon) q (valueIn values (placeOfQueue (counted sheet) (sheet .horizon) w))) here
           (f .end-row (numberOf (M (counted sheet)) w) below))
 
   -- the plan byte is the slowest speed that begins a least way, or 255 where there is none
-  pub byte-right : (t : ℕ) → t < sheet .horizon → IsPlanByte (counted sheet) t w (valueIn values (placeOf sheet t w)) (getD bytes (placeOf sheet t w) 0)
+  pub byte-right : (t : ℕ) → t < sheet .horizon → IsPlanByte (counted sheet) t w (valueIn values (placeOfQueue (counted sheet) t w)) (getD bytes (placeOfQueue (counted sheet) t w) 0)
   byte-right t h =
       let d = planned-filled call planned .rows t (numberOf (M (counted sheet)) w) h below in
-      subst (λ (r : Option ℕ). IsPlanByte (counted sheet) t w r (getD bytes (placeOf sheet t w) 0)) (sym (d .in-values))
-      (subst (λ (q : Queue). IsPlanByte (counted sheet) t q (d .r) (getD bytes (placeOf sheet t w) 0)) here (d .in-plan))
+      subst (λ (r : Option ℕ). IsPlanByte (counted sheet) t w r (getD bytes (placeOfQueue (counted sheet) t w) 0)) (sym (d .in-values))
+      (subst (λ (q : Queue). IsPlanByte (counted sheet) t q (d .r) (getD bytes (placeOfQueue (counted sheet) t w) 0)) here (d .in-plan))
 
   -- "none" stands exactly where no way is good
   pub none-right : (t : ℕ) → t ≤ sheet .horizon →
-      (valueIn values (placeOf sheet t w) ≡ none) ↔
+      (valueIn values (placeOfQueue (counted sheet) t w) ≡ none) ↔
       ((σ : Way) → Good (processOf (counted sheet)) (counted sheet .jobCount) (sheet .horizon - t) w σ → ⊥)
   none-right t h = (
     λ e. subst (IsValueAt (counted sheet) t w) e (value-right t h),
     λ none-good. value-unique (processOf (counted sheet)) (counted sheet .jobCount) (weightAt (counted sheet)) (sheet .horizon - t) w
-        (valueIn values (placeOf sheet t w)) none (value-right t h) none-good,
+        (valueIn values (placeOfQueue (counted sheet) t w)) none (value-right t h) none-good,
   )

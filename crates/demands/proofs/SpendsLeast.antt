@@ -9,13 +9,13 @@ use lib.Dec.{T}
 use lib.ListN.{length, getD}
 use Rattle.process.specs.Ways.{Way, spent, IsLeast}
 use Rattle.model.specs.Counted.{Counted, counted, weightAt}
-use Rattle.model.specs.Plan.{processOf, planRefusal}
+use Rattle.model.specs.Plan.{processOf, planRefusal, HasValue}
 use Rattle.model.specs.Queue.{Queue, positions, unusedZero}
 use Rattle.model.specs.Refusal.{sheetRefusal}
 use Rattle.model.specs.Stepper.{queueOf}
 use Rattle.model.specs.declared.Sheet.{Sheet}
 use Rattle.model.proofs.Rooms.{plan-accepted}
-use Rattle.model.proofs.Stepping.{HasValue, plannedWay, planned-least, spends-planned}
+use Rattle.model.proofs.Stepping.{plannedWay, planned-least, spends-planned}
 use Rattle.planner.specs.declared.calls.PlanAnswer.{PlanAnswer}
 use Rattle.stepper.specs.Calls.{stateOf}
 use Rattle.stepper.specs.declared.state.State.{State}

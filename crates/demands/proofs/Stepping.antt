@@ -12,7 +12,7 @@ use lib.ListN.{length, getD}
 use Rattle.process.specs.Sums.{sum}
 use Rattle.process.proofs.Definite.{value-unique}
 use Rattle.model.specs.Counted.{Counted, counted, sizeAt, deadlineAt, weightAt, energyOf, M}
-use Rattle.model.specs.Plan.{processOf, IsPlanByte, valueIn, planRefusal, rowRefusal}
+use Rattle.model.specs.Plan.{processOf, IsPlanByte, valueIn, planRefusal, rowRefusal, placeOfQueue, HasValue}
 use Rattle.model.specs.Queue.{Queue, bearable, positions, queueIn, oneSlot, unusedZero}
 use Rattle.model.specs.Refusal.{sheetRefusal}
 use Rattle.model.specs.Stepper as model
@@ -22,14 +22,14 @@ use Rattle.model.proofs.Refusal.{accepted}
 use Rattle.model.proofs.Rooms.{plan-accepted, row-accepted, row-fits}
 use Rattle.model.proofs.Stepper.{byte-at, moved-by}
 use Rattle.model.proofs.Stepping as stepping
-use Rattle.model.proofs.Stepping.{HasValue, RightPlan, Going}
+use Rattle.model.proofs.Stepping.{RightPlan, Going}
 use Rattle.planner.specs.declared.calls.PlanAnswer.{PlanAnswer}
 use Rattle.stepper.specs.Calls.{stateOf}
 use Rattle.stepper.specs.declared.state.State.{State}
 use Rattle.stepper.specs.declared.state.Stepped.{Stepped}
 use Rattle.stepper.specs.declared.state.Told.{Told}
 use Rattle.demands.specs.Calls.{Plans, Speeds, Advances}
-use Rattle.demands.specs.Runs.{placeOf, stateBefore, Run, Stands, Steps, NeverRefused}
+use Rattle.demands.specs.Runs.{stateBefore, Run, Stands, Steps, NeverRefused}
 use Rattle.demands.proofs.Demand2.{planned-filled, value-right, byte-right}
 use Rattle.demands.proofs.Determined.{start-is, speed-is, advance-is}
 
@@ -49,15 +49,15 @@ module _ {sheet : Sheet} {values₀ plan₀ values bytes : List ℕ} {a : PlanAn
 
   -- where a queue has a value, the values say it
   value-there : (t : ℕ) (w : Queue) → t ≤ s .horizon → length w ≡ s .bound → T (bearable (M s) w) → (h : HasValue s t w) →
-      valueIn values (placeOf sheet t w) ≡ some (h .0)
+      valueIn values (placeOfQueue (counted sheet) t w) ≡ some (h .0)
   value-there t w l long right h =
-      value-unique (processOf s) (s .jobCount) (weightAt s) (s .horizon - t) w (valueIn values (placeOf sheet t w)) (some (h .0))
+      value-unique (processOf s) (s .jobCount) (weightAt s) (s .horizon - t) w (valueIn values (placeOfQueue (counted sheet) t w)) (some (h .0))
       (value-right call planned w right long t l) (h .1)
 
   -- and its bytes are right
   pub right-plan : RightPlan s bytes
   right-plan t l w long right h =
-      subst (λ (r : Option ℕ). IsPlanByte s t w r (getD bytes (placeOf sheet t w) 0)) (value-there t w (le-of-lt l) long right h)
+      subst (λ (r : Option ℕ). IsPlanByte s t w r (getD bytes (placeOfQueue (counted sheet) t w) 0)) (value-there t w (le-of-lt l) long right h)
       (byte-right call planned w right long t l)
 
   -- a run from a queue that has a value, along a list of the sheet's entries no longer than the horizon. That a queue stands in six places
@@ -79,7 +79,7 @@ module _ {sheet : Sheet} {values₀ plan₀ values bytes : List ℕ} {a : PlanAn
     begun =
         let promised = start-is (run .starts) in
         let x = stateOf from in
-        let law = stepping.started s passed x six (stepping.value-right s passed x unused begins) begins in
+        let law = stepping.started s passed x six (stepping.right-with-value s passed x unused begins) begins in
         let state-is = promised .state-is ∙ ap (λ (r : model.Stepped). r .state) (law .0) in (
           promised .number-is ∙ ap (λ (r : model.Stepped). r .number) (law .0),
           state-is,
@@ -170,7 +170,7 @@ module _ {sheet : Sheet} {values₀ plan₀ values bytes : List ℕ} {a : PlanAn
         let g = going t (le-of-lt h) in
         let w = model.queueOf s (state t) in
         let told = told-so t h g in
-        let at-slot = byte-at s bytes (state t) ∙ ap (λ (u : ℕ). getD bytes (placeOf sheet u w) 0) (g .at-slot) in
+        let at-slot = byte-at s bytes (state t) ∙ ap (λ (u : ℕ). getD bytes (placeOfQueue (counted sheet) u w) 0) (g .at-slot) in
         record {
           speed-answers = told .0;
           speed-is = told .1 ∙ at-slot;

@@ -7,9 +7,9 @@ use mathlib.Core.Option.{some}
 use lib.Dec.{T}
 use lib.ListN.{length, getD}
 use Rattle.process.specs.Sums.{sum}
-use Rattle.model.specs.Counted.{Counted, counted, sizeAt, deadlineAt, energyOf, M}
-use Rattle.model.specs.Plan.{valueIn, placeAt}
-use Rattle.model.specs.Queue.{Queue, bearable, oneSlot, numberOf}
+use Rattle.model.specs.Counted.{counted, sizeAt, deadlineAt, energyOf, M}
+use Rattle.model.specs.Plan.{valueIn, placeOfQueue}
+use Rattle.model.specs.Queue.{Queue, bearable, oneSlot}
 use Rattle.model.specs.Stepper.{queueOf}
 use Rattle.model.specs.declared.Sheet.{Sheet}
 use Rattle.stepper.specs.Calls.{stateOf}
@@ -17,10 +17,6 @@ use Rattle.stepper.specs.declared.state.State.{State}
 use Rattle.stepper.specs.declared.state.Stepped.{Stepped}
 use Rattle.stepper.specs.declared.state.Told.{Told}
 use Rattle.demands.specs.Calls.{Starts, Speeds, Advances}
-
--- the place of a slot and a queue in a sheet's tables
-abbrev pub placeOf : Sheet → ℕ → Queue → ℕ
-placeOf sheet t w = placeAt (counted sheet) t (numberOf (M (counted sheet)) w)
 
 -- the state before slot t: the one that start gave, and then each one that the last advance handed back
 abbrev pub stateBefore : Stepped → (ℕ → Stepped) → ℕ → State
@@ -51,13 +47,13 @@ pub record Stands (sheet : Sheet) (values bytes : List ℕ) {from : State} {arri
   pub energy-is : stateBefore (run .started) (run .stepped) t .energy ≡ sum (λ u. energyOf (counted sheet) (run .told u .speed)) t
   -- the queue is bearable and has a value
   pub is-bearable : T (bearable (M (counted sheet)) (queueBefore sheet (run .started) (run .stepped) t))
-  pub has-value : (v : ℕ) × (valueIn values (placeOf sheet t (queueBefore sheet (run .started) (run .stepped) t)) ≡ some v)
+  pub has-value : (v : ℕ) × (valueIn values (placeOfQueue (counted sheet) t (queueBefore sheet (run .started) (run .stepped) t)) ≡ some v)
 
 -- slot t of a run: neither call is refused, the speed is the plan's, and the next queue is what the slot and the arrival make of this one
 pub record Steps (sheet : Sheet) (bytes : List ℕ) {from : State} {arrivals : List ℕ} (run : Run sheet bytes from arrivals)
     (t : ℕ) : Type 0 where
   pub speed-answers : run .told t .number ≡ 0
-  pub speed-is : run .told t .speed ≡ getD bytes (placeOf sheet t (queueBefore sheet (run .started) (run .stepped) t)) 0
+  pub speed-is : run .told t .speed ≡ getD bytes (placeOfQueue (counted sheet) t (queueBefore sheet (run .started) (run .stepped) t)) 0
   pub advance-answers : run .stepped t .number ≡ 0
   pub queue-is : queueBefore sheet (run .started) (run .stepped) (suc t) ≡
       oneSlot (queueBefore sheet (run .started) (run .stepped) t) (run .told t .speed)

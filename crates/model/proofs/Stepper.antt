@@ -7,11 +7,11 @@ use mathlib.Core.List.{List}
 use borrow.Author.Tests.{le-leb, lt-leb, eq-eqb, ne-eqb}
 use lib.Dec.{T, leb, eqb, leb→le}
 use lib.ListN.{length, getD}
-use Rattle.model.specs.Counted.{Counted, onSheet, energyOf, greatestEnergy, M}
-use Rattle.model.specs.Plan.{placeAt, rowRefusal}
-use Rattle.model.specs.Queue.{total, placesOf, bearable, oneSlot, numberOf}
+use Rattle.model.specs.Counted.{Counted, onSheet, energyOf, greatestEnergy}
+use Rattle.model.specs.Plan.{placeOfQueue, rowRefusal}
+use Rattle.model.specs.Queue.{total, placesOf, oneSlot}
 use Rattle.model.specs.Refusal.{sheetRefusal}
-use Rattle.model.specs.Stepper.{State, queueOf, queueRight, stateRight, zeroState, startRefusal, start, planByte, byteRight, speedRefusal, speed, isEntry, moved, advanceRefusal, advance}
+use Rattle.model.specs.Stepper.{State, queueOf, queueRight, stateRight, zeroState, startRefusal, start, planByte, byteRight, speedRefusal, speed, isEntry, moved, nextRefusal, advanceRefusal, advance}
 use Rattle.model.specs.Tests.{check, _then_}
 use Rattle.model.proofs.Tests.{and-left, and-right, and-fails-right, check-zero, check-true, check-false, then-left, then-right, then-on, then-passes, then-fails, then-stops, then-then}
 
@@ -26,19 +26,19 @@ module _ (s : Counted) where
   start-by x e = λ i. record { number = e i; state = cond (eqb (e i) 0) (record { queue = x .queue; slot = 0; energy = 0 }) zeroState }
 
   -- it refuses a sheet that is refused, with the sheet's number
-  pub start-refused : (x : State) {number : ℕ} → number ≡ sheetRefusal s → (number ≡ 0 → ⊥) → startRefusal s x ≡ number
+  pub start-refusal-sheet : (x : State) {number : ℕ} → number ≡ sheetRefusal s → (number ≡ 0 → ⊥) → startRefusal s x ≡ number
   unfolding startRefusal
-  start-refused x {number = number} e some = rw (← e) (then-stops number _ some)
+  start-refusal-sheet x {number = number} e some = rw (← e) (then-stops number _ some)
 
   -- and 13 where the queue is not right
-  pub start-13 : (x : State) → sheetRefusal s ≡ 0 → queueRight s x ≡ false → startRefusal s x ≡ 13
+  pub start-refusal-13 : (x : State) → sheetRefusal s ≡ 0 → queueRight s x ≡ false → startRefusal s x ≡ 13
   unfolding startRefusal
-  start-13 x e wrong = then-on (sheetRefusal s) _ e ∙ check-false (queueRight s x) 13 wrong
+  start-refusal-13 x e wrong = then-on (sheetRefusal s) _ e ∙ check-false (queueRight s x) 13 wrong
 
   -- and 0 otherwise
-  pub start-0 : (x : State) → sheetRefusal s ≡ 0 → queueRight s x ≡ true → startRefusal s x ≡ 0
+  pub start-refusal-0 : (x : State) → sheetRefusal s ≡ 0 → queueRight s x ≡ true → startRefusal s x ≡ 0
   unfolding startRefusal
-  start-0 x e right = then-on (sheetRefusal s) _ e ∙ check-true (queueRight s x) 13 right
+  start-refusal-0 x e right = then-on (sheetRefusal s) _ e ∙ check-true (queueRight s x) 13 right
 
   -- 4 to 10 and 11 are the row call's tests
   pub speed-in-parts : (plan : List ℕ) (x : State) →
@@ -100,9 +100,9 @@ module _ (s : Counted) where
   -- speed
 
   -- it refuses what the row call refuses
-  pub speed-refused : (plan : List ℕ) (x : State) {number : ℕ} → number ≡ rowRefusal s (length plan) → (number ≡ 0 → ⊥) →
+  pub speed-refusal-row : (plan : List ℕ) (x : State) {number : ℕ} → number ≡ rowRefusal s (length plan) → (number ≡ 0 → ⊥) →
       speedRefusal s plan x ≡ number
-  speed-refused plan x {number = number} e some = speed-in-parts plan x ∙ rw (← e) (then-stops number _ some)
+  speed-refusal-row plan x {number = number} e some = speed-in-parts plan x ∙ rw (← e) (then-stops number _ some)
 
   -- what is left where the row call refuses nothing
   after-row : (plan : List ℕ) (x : State) → rowRefusal s (length plan) ≡ 0 →
@@ -111,20 +111,20 @@ module _ (s : Counted) where
   after-row plan x e = speed-in-parts plan x ∙ then-on (rowRefusal s (length plan)) _ e
 
   -- then 13, where the state is not right
-  pub speed-13 : (plan : List ℕ) (x : State) → rowRefusal s (length plan) ≡ 0 → stateRight s x ≡ false → speedRefusal s plan x ≡ 13
-  speed-13 plan x e wrong = after-row plan x e ∙ then-fails (stateRight s x) 12 _ wrong
+  pub speed-refusal-13 : (plan : List ℕ) (x : State) → rowRefusal s (length plan) ≡ 0 → stateRight s x ≡ false → speedRefusal s plan x ≡ 13
+  speed-refusal-13 plan x e wrong = after-row plan x e ∙ then-fails (stateRight s x) 12 _ wrong
 
   -- then 14, at the horizon
-  pub speed-14 : (plan : List ℕ) (x : State) → rowRefusal s (length plan) ≡ 0 → stateRight s x ≡ true → x .slot ≡ s .horizon →
+  pub speed-refusal-14 : (plan : List ℕ) (x : State) → rowRefusal s (length plan) ≡ 0 → stateRight s x ≡ true → x .slot ≡ s .horizon →
       speedRefusal s plan x ≡ 14
-  speed-14 plan x e right last =
+  speed-refusal-14 plan x e right last =
       after-row plan x e ∙ then-passes (stateRight s x) 13 _ right ∙
       then-fails (not (eqb (x .slot) (s .horizon))) 13 _ (ap not (eq-eqb (x .slot) (s .horizon) last))
 
   -- before the horizon the plan byte decides
-  pub speed-16-or-0 : (plan : List ℕ) (x : State) → rowRefusal s (length plan) ≡ 0 → stateRight s x ≡ true → (x .slot ≡ s .horizon → ⊥) →
+  pub speed-refusal-16-or-0 : (plan : List ℕ) (x : State) → rowRefusal s (length plan) ≡ 0 → stateRight s x ≡ true → (x .slot ≡ s .horizon → ⊥) →
       speedRefusal s plan x ≡ check (byteRight s x (planByte s plan x)) 16
-  speed-16-or-0 plan x e right before =
+  speed-refusal-16-or-0 plan x e right before =
       after-row plan x e ∙ then-passes (stateRight s x) 13 _ right ∙
       then-passes (not (eqb (x .slot) (s .horizon))) 14 _ (ap not (ne-eqb (x .slot) (s .horizon) before))
 
@@ -143,7 +143,7 @@ module _ (s : Counted) where
       )
 
   -- the plan byte, by its place
-  pub byte-at : (plan : List ℕ) (x : State) → planByte s plan x ≡ getD plan (placeAt s (x .slot) (numberOf (M s) (queueOf s x))) 0
+  pub byte-at : (plan : List ℕ) (x : State) → planByte s plan x ≡ getD plan (placeOfQueue s (x .slot) (queueOf s x)) 0
   unfolding planByte
   byte-at plan x = refl
 
@@ -176,22 +176,20 @@ module _ (s : Counted) where
   moved-by x byte size deadline = refl
 
   -- it refuses what the speed call refuses
-  pub advance-refused : (plan : List ℕ) (x : State) (size deadline : ℕ) {number : ℕ} → number ≡ speedRefusal s plan x → (number ≡ 0 → ⊥) →
+  pub advance-refusal-speed : (plan : List ℕ) (x : State) (size deadline : ℕ) {number : ℕ} → number ≡ speedRefusal s plan x → (number ≡ 0 → ⊥) →
       advanceRefusal s plan x size deadline ≡ number
   unfolding advanceRefusal
-  advance-refused plan x size deadline {number = number} e some = rw (← e) (then-stops number _ some)
+  advance-refusal-speed plan x size deadline {number = number} e some = rw (← e) (then-stops number _ some)
 
   -- then 15, where the arrival is no entry
-  pub advance-15 : (plan : List ℕ) (x : State) (size deadline : ℕ) → speedRefusal s plan x ≡ 0 → isEntry s size deadline ≡ false →
+  pub advance-refusal-15 : (plan : List ℕ) (x : State) (size deadline : ℕ) → speedRefusal s plan x ≡ 0 → isEntry s size deadline ≡ false →
       advanceRefusal s plan x size deadline ≡ 15
   unfolding advanceRefusal
-  advance-15 plan x size deadline e wrong = then-on (speedRefusal s plan x) _ e ∙ then-fails (isEntry s size deadline) 14 _ wrong
+  advance-refusal-15 plan x size deadline e wrong = then-on (speedRefusal s plan x) _ e ∙ then-fails (isEntry s size deadline) 14 _ wrong
 
   -- and 17 and 18 are left otherwise
-  pub advance-17-or-18 : (plan : List ℕ) (x : State) (size deadline : ℕ) → speedRefusal s plan x ≡ 0 → isEntry s size deadline ≡ true →
-      advanceRefusal s plan x size deadline ≡
-      check (bearable (M s) (queueOf s (moved s x (planByte s plan x) size deadline))) 17 then
-      check (leb (moved s x (planByte s plan x) size deadline .energy) 4294967295) 18
+  pub advance-refusal-next : (plan : List ℕ) (x : State) (size deadline : ℕ) → speedRefusal s plan x ≡ 0 → isEntry s size deadline ≡ true →
+      advanceRefusal s plan x size deadline ≡ nextRefusal s (moved s x (planByte s plan x) size deadline)
   unfolding advanceRefusal
-  advance-17-or-18 plan x size deadline e right =
+  advance-refusal-next plan x size deadline e right =
       then-on (speedRefusal s plan x) _ e ∙ then-passes (isEntry s size deadline) 15 _ right

@@ -3,12 +3,12 @@
 -- spent is what a least good way spends along the same entries. Callers' proofs cite these laws, and not the stepper's definitions.
 use Prim.Native.Nat.{ℕ, suc, _+_, _*_, _-_, _≤_, _<_, zero-le}
 use mathlib.Core.Path.{_≡_, refl, sym, ap, _∙_, subst}
-use mathlib.Core.Bool.{not, _&&_}
+use mathlib.Core.Bool.{true}
 use mathlib.Core.List.{List}
 use mathlib.Core.Option.{some}
 use native.Mathlib.Nat.{le-refl, le-of-lt, mul-le-mul, sub-zero}
 use native.Mathlib.Omega.{arith}
-use borrow.Author.Tests.{eq-eqb, ne-eqb}
+use borrow.Author.Tests.{le-leb}
 use lib.Dec.{T, leb, eqb, le→leb, eqb-refl}
 use lib.ListN.{length, getD}
 use Rattle.process.specs.Recursion as recursion
@@ -17,28 +17,24 @@ use Rattle.process.specs.Sums.{sum}
 use Rattle.process.specs.Ways.{Way, spent, IsValue, IsLeast, IsFirst}
 use Rattle.process.proofs.Value.{first-step, plan-least, value-some-is, first-plan, SlotByRule, spent-by-rule}
 use Rattle.model.specs.Counted.{Counted, sizeAt, deadlineAt, weightAt, onSheet, energyOf, greatestEnergy, M}
-use Rattle.model.specs.Plan.{nextQueue, processOf, IsValueAt, placeAt, rowRefusal}
-use Rattle.model.specs.Queue.{Queue, total, positions, queueIn, placesOf, bearable, unusedZero, bearableIn, oneSlot, numberOf}
+use Rattle.model.specs.Plan.{nextQueue, processOf, HasValue, placeOfQueue, rowRefusal}
+use Rattle.model.specs.Queue.{Queue, total, positions, queueIn, placesOf, bearable, unusedZero, bearableIn, oneSlot}
 use Rattle.model.specs.Refusal.{sheetRefusal}
-use Rattle.model.specs.Stepper.{State, queueOf, queueRight, stateRight, startRefusal, start, planByte, byteRight, speedRefusal, speed, isEntry, moved, advanceRefusal, advance}
+use Rattle.model.specs.Stepper.{State, queueOf, queueRight, stateRight, start, planByte, byteRight, speedRefusal, speed, isEntryAt, isEntry, moved, energyLimit, nextRefusal, advanceRefusal, advance}
 use Rattle.model.specs.Tests.{check, _then_}
 use Rattle.model.proofs.Admissible.{good-bearable}
 use Rattle.model.proofs.Counted.{on-sheet, energy-of-upto}
 use Rattle.model.proofs.Queues.{length-slot, held-bearable, length-in, length-places, in-first-places, places-hold}
 use Rattle.model.proofs.Refusal.{Ranged, accepted, speeds-rise, greatest-energy-high}
 use Rattle.model.proofs.Rooms.{row-accepted}
-use Rattle.model.proofs.Stepper.{state-right, start-by, speed-in-parts, speed-by, advance-by}
-use Rattle.model.proofs.Tests.{and-both, anywhere-one, check-passes, then-both, then-on, then-passes, then-holds, then-fails, then-stops}
-
--- a queue has a value at slot t: some way from there is good
-abbrev pub HasValue : Counted → ℕ → Queue → Type 0
-HasValue s t w = (v : ℕ) × IsValueAt s t w (some v)
+use Rattle.model.proofs.Stepper.{state-right, start-by, start-refusal-0, energy-decides, speed-by, speed-refusal-14, speed-refusal-16-or-0, first-decides, moved-by, advance-by, advance-refusal-speed, advance-refusal-next}
+use Rattle.model.proofs.Tests.{holds-true, and-both, anywhere-one, check-passes, check-true, then-both}
 
 -- plan bytes that are right: at every slot before the horizon, for every bearable queue that has a value, the byte begins a least way
 abbrev pub RightPlan : Counted → List ℕ → Type 0
 RightPlan s plan =
     (t : ℕ) → t < s .horizon → (w : Queue) → length w ≡ s .bound → T (bearable (M s) w) → HasValue s t w →
-    IsFirst (processOf s) (s .jobCount) (weightAt s) (s .horizon - t) w (getD plan (placeAt s t (numberOf (M s) w)) 0)
+    IsFirst (processOf s) (s .jobCount) (weightAt s) (s .horizon - t) w (getD plan (placeOfQueue s t w) 0)
 
 -- a state at slot t from which stepping goes on
 pub record Going (s : Counted) (t : ℕ) (x : State) : Type 0 where
@@ -51,7 +47,7 @@ pub record Going (s : Counted) (t : ℕ) (x : State) : Type 0 where
 module _ (s : Counted) where
   -- of a right state of an accepted sheet, the energy and one slot's more of any sheet speed stay below 2^32, so that 18 cannot be met
   pub energy-small : sheetRefusal s ≡ 0 → (x : State) → T (stateRight s x) → (a : ℕ) → T (onSheet s a) →
-      x .energy + energyOf s a ≤ 4294967295
+      x .energy + energyOf s a ≤ energyLimit
   energy-small e x t a on =
       let ranges = accepted s e .ranged in
       let most = greatest-energy-high s ranges in
@@ -64,52 +60,36 @@ module _ (s : Counted) where
   value-bearable e t w v = good-bearable s (accepted s e .ranged .jobs-low) (s .horizon - t) w (v .1 .way) (v .1 .holds)
 
   -- so that what stands in the places is right where the unused ones are zero
-  pub value-right : sheetRefusal s ≡ 0 → (x : State) → T (unusedZero (s .bound) (x .queue)) → HasValue s 0 (queueOf s x) →
+  pub right-with-value : sheetRefusal s ≡ 0 → (x : State) → T (unusedZero (s .bound) (x .queue)) → HasValue s 0 (queueOf s x) →
       T (queueRight s x)
   unfolding bearableIn
-  value-right e x unused v = and-both (bearable (M s) (queueOf s x)) _ (value-bearable e 0 (queueOf s x) v) unused
+  right-with-value e x unused v = and-both (bearable (M s) (queueOf s x)) _ (value-bearable e 0 (queueOf s x) v) unused
 
   -- start from a queue that has a value answers 0, and stepping goes on from there
   pub started : sheetRefusal s ≡ 0 → (x : State) → length (x .queue) ≡ positions → T (queueRight s x) → HasValue s 0 (queueOf s x) →
       (start s x ≡ record { number = 0; state = record { queue = x .queue; slot = 0; energy = 0 } }) ×
       Going s 0 (record { queue = x .queue; slot = 0; energy = 0 })
-  unfolding startRefusal
-  started e x six right v =
-      let passes = then-both (sheetRefusal s) (check (queueRight s x) 13) e (check-passes (queueRight s x) 13 right) in (
-        start-by s x passes,
-        record { six = six; right = right; at-slot = refl; energy-upto = zero-le; has-value = v },
-      )
+  started e x six right v = (
+    start-by s x (start-refusal-0 s x e (holds-true (queueRight s x) right)),
+    record { six = six; right = right; at-slot = refl; energy-upto = zero-le; has-value = v },
+  )
 
   -- 13 passes of a state from which stepping goes on
-  going-right : (t : ℕ) (x : State) → t ≤ s .horizon → Going s t x → T (stateRight s x)
-  unfolding stateRight
+  going-right : (t : ℕ) (x : State) → t ≤ s .horizon → Going s t x → stateRight s x ≡ true
   going-right t x h g =
-      let slot = le→leb (x .slot) (s .horizon) (omega (arith, g .at-slot)) in
       let upto = subst (λ (u : ℕ). x .energy ≤ u * greatestEnergy s) (sym (g .at-slot)) (g .energy-upto) in
-      and-both (queueRight s x && leb (x .slot) (s .horizon)) _ (and-both (queueRight s x) _ (g .right) slot)
-      (le→leb (x .energy) (x .slot * greatestEnergy s) upto)
-
-  -- so that of speed's tests 14 and 16 are left
-  going-speed : (plan : List ℕ) (t : ℕ) (x : State) → rowRefusal s (length plan) ≡ 0 → t ≤ s .horizon → Going s t x →
-      speedRefusal s plan x ≡ check (not (eqb (x .slot) (s .horizon))) 14 then check (byteRight s x (planByte s plan x)) 16
-  going-speed plan t x e h g =
-      speed-in-parts s plan x ∙ then-on (rowRefusal s (length plan)) _ e ∙
-      then-holds (stateRight s x) 13 _ (going-right t x h g)
+      energy-decides s x (holds-true (queueRight s x) (g .right)) (omega (arith, g .at-slot)) ∙
+      le-leb (x .energy) (x .slot * greatestEnergy s) upto
 
   -- at the horizon: 14, whatever the plan holds and whatever arrives
   pub ended : (plan : List ℕ) (x : State) → rowRefusal s (length plan) ≡ 0 → Going s (s .horizon) x →
       (speed s plan x ≡ record { number = 14; speed = 0 }) ×
       ((size deadline : ℕ) → advance s plan x size deadline ≡ record { number = 14; state = x })
-  unfolding advanceRefusal
-  ended plan x e g = (
-    speed-by s plan x last,
-    λ size deadline. advance-by s plan x size deadline (then-stops (speedRefusal s plan x) _ (λ q. omega (arith, last)) ∙ last),
-  )
-    where
-      last : speedRefusal s plan x ≡ 14
-      last =
-          going-speed plan (s .horizon) x e (le-refl (s .horizon)) g ∙
-          then-fails (not (eqb (x .slot) (s .horizon))) 13 _ (ap not (eq-eqb (x .slot) (s .horizon) (g .at-slot)))
+  ended plan x e g =
+      let last = speed-refusal-14 s plan x e (going-right (s .horizon) x (le-refl (s .horizon)) g) (g .at-slot) in (
+        speed-by s plan x last,
+        λ size deadline. advance-by s plan x size deadline (advance-refusal-speed s plan x size deadline (sym last) (λ q. omega arith)),
+      )
 
   -- before the horizon, with a right plan
 
@@ -132,7 +112,7 @@ module _ (s : Counted) where
     unfolding planByte
     first =
         subst (λ (u : ℕ). IsFirst (processOf s) (s .jobCount) (weightAt s) (s .horizon - t) (queueOf s x)
-        (getD plan (placeAt s u (numberOf (M s) (queueOf s x))) 0)) (sym (g .at-slot))
+        (getD plan (placeOfQueue s u (queueOf s x)) 0)) (sym (g .at-slot))
         (right-plan t h (queueOf s x) long (held-bearable (M s) (s .bound) (x .queue) (g .right)) (g .has-value))
 
     -- so it is a sheet speed and at least w(1), and after each entry the queue has a value again
@@ -147,12 +127,10 @@ module _ (s : Counted) where
 
     -- 14 and 16 pass
     speed-zero : speedRefusal s plan x ≡ 0
-    unfolding byteRight
     speed-zero =
-        going-speed plan t x e (le-of-lt h) g ∙
-        then-passes (not (eqb (x .slot) (s .horizon))) 14 _
-        (ap not (ne-eqb (x .slot) (s .horizon) (λ q. omega (arith, g .at-slot)))) ∙
-        check-passes (byteRight s x byte) 16 (and-both (onSheet s byte) _ (onward .0) (onward .1))
+        speed-refusal-16-or-0 s plan x e (going-right t x (le-of-lt h) g) (λ q. omega (arith, g .at-slot)) ∙
+        check-true (byteRight s x byte) 16
+        (first-decides s x byte (holds-true (onSheet s byte) (onward .0)) ∙ holds-true (leb (total (queueOf s x) 1) byte) (onward .1))
 
     -- speed is the plan's, with number 0
     pub told : speed s plan x ≡ record { number = 0; speed = planByte s plan x }
@@ -176,29 +154,25 @@ module _ (s : Counted) where
       next-bearable : T (bearable (M s) next)
       next-bearable = value-bearable (row-accepted s (length plan) e .0) (suc t) next (onward .2 i l)
 
+      -- it is an entry
+      entry : T (isEntry s (sizeAt s i) (deadlineAt s i))
+      unfolding isEntry
+      entry =
+          anywhere-one (isEntryAt s (sizeAt s i) (deadlineAt s i)) (s .jobCount) i l
+          (and-both (eqb (sizeAt s i) (sizeAt s i)) _ (eqb-refl (sizeAt s i)) (eqb-refl (deadlineAt s i)))
+
       -- 15, 17 and 18 pass
       advance-zero : advanceRefusal s plan x (sizeAt s i) (deadlineAt s i) ≡ 0
-      unfolding advanceRefusal isEntry moved
       advance-zero =
-          then-on (speedRefusal s plan x) _ speed-zero ∙ then-holds (isEntry s size deadline) 15 _ entry ∙
-          then-holds (bearable (M s) (queueIn (s .bound) (placesOf next))) 17 _
-          (subst (λ (w : Queue). T (bearable (M s) w)) (sym in-next) next-bearable) ∙
-          check-passes (leb (x .energy + energyOf s byte) 4294967295) 18 (le→leb (x .energy + energyOf s byte) 4294967295 small)
-        where
-          size : ℕ
-          size = sizeAt s i
-
-          deadline : ℕ
-          deadline = deadlineAt s i
-
-          entry : T (isEntry s size deadline)
-          entry =
-              anywhere-one (λ j. eqb (sizeAt s j) size && eqb (deadlineAt s j) deadline) (s .jobCount) i l
-              (and-both (eqb size size) _ (eqb-refl size) (eqb-refl deadline))
-
-          small : x .energy + energyOf s byte ≤ 4294967295
-          small =
-              energy-small (row-accepted s (length plan) e .0) x (going-right t x (le-of-lt h) g) byte (onward .0)
+          let after = moved-by s x byte (sizeAt s i) (deadlineAt s i) in
+          let right = going-right t x (le-of-lt h) g in
+          let small = energy-small (row-accepted s (length plan) e .0) x (subst T (sym right) tt) byte (onward .0) in
+          advance-refusal-next s plan x (sizeAt s i) (deadlineAt s i) speed-zero (holds-true (isEntry s (sizeAt s i) (deadlineAt s i)) entry) ∙
+          ap (nextRefusal s) after ∙
+          then-both (check (bearable (M s) (queueIn (s .bound) (placesOf next))) 17) _
+          (check-passes (bearable (M s) (queueIn (s .bound) (placesOf next))) 17
+          (subst (λ (w : Queue). T (bearable (M s) w)) (sym in-next) next-bearable))
+          (check-passes (leb (x .energy + energyOf s byte) energyLimit) 18 (le→leb (x .energy + energyOf s byte) energyLimit small))
 
       -- and stepping goes on
       next-going : Going s (suc t) (moved s x byte (sizeAt s i) (deadlineAt s i))
@@ -241,10 +215,10 @@ module _ (s : Counted) where
   -- a right plan holds these speeds
   right-planned : sheetRefusal s ≡ 0 → (plan : List ℕ) → RightPlan s plan →
       (t : ℕ) → t < s .horizon → (w : Queue) → length w ≡ s .bound → HasValue s t w →
-      getD plan (placeAt s t (numberOf (M s) w)) 0 ≡ planned (s .horizon - t) w
+      getD plan (placeOfQueue s t w) 0 ≡ planned (s .horizon - t) w
   unfolding processOf
   right-planned e plan right-plan t h w long v =
-      let byte = getD plan (placeAt s t (numberOf (M s) w)) 0 in
+      let byte = getD plan (placeOfQueue s t w) 0 in
       let slots : suc (s .horizon - suc t) ≡ s .horizon - t = omega arith in
       let ranges = accepted s e .ranged in
       subst (λ (k : ℕ). IsFirst (processOf s) (s .jobCount) (weightAt s) k w byte → byte ≡ planned k w) slots
@@ -256,7 +230,7 @@ module _ (s : Counted) where
       (arrivals : List ℕ) → length arrivals ≡ s .horizon → (queue : ℕ → Queue) (speedIn : ℕ → ℕ) →
       ((t : ℕ) → t < length arrivals →
       (length (queue t) ≡ s .bound) × HasValue s t (queue t) ×
-      (speedIn t ≡ getD plan (placeAt s t (numberOf (M s) (queue t))) 0) ×
+      (speedIn t ≡ getD plan (placeOfQueue s t (queue t)) 0) ×
       (queue (suc t) ≡ oneSlot (queue t) (speedIn t) (sizeAt s (getD arrivals t 0)) (deadlineAt s (getD arrivals t 0)))) →
       sum (λ t. energyOf s (speedIn t)) (length arrivals) ≡ spent (processOf s) (queue 0) (plannedWay (queue 0)) arrivals
   unfolding processOf nextQueue sum

@@ -11,6 +11,11 @@ use lib.Dec.{T, ltb, ltb→lt, lt→ltb}
 use lib.ListN.{length, getD}
 use Rattle.model.specs.Tests.{check, _then_, inOrder, everywhere, anywhere, firstPlace, greatest, listed}
 
+-- a test that holds is true
+pub holds-true : (passes : Bool) → T passes → passes ≡ true
+holds-true true t = refl
+holds-true false t = absurd t
+
 -- two tests together
 
 pub and-left : (a b : Bool) → T (a && b) → T a
@@ -84,10 +89,6 @@ then-on a later e = ap (λ (n : ℕ). n then later) e
 pub then-then : (a b later : ℕ) → (a then b) then later ≡ a then b then later
 then-then zero b later = refl
 then-then (suc a) b later = refl
-
--- a test that holds leaves it to the later ones
-pub then-holds : (passes : Bool) (number later : ℕ) → T passes → check passes number then later ≡ later
-then-holds passes number later t = then-on (check passes number) later (check-passes passes number t)
 
 pub then-stops : (a later : ℕ) → (a ≡ 0 → ⊥) → a then later ≡ a
 then-stops zero later h = absurd (h refl)

@@ -89,13 +89,21 @@ deadlineAt s i = (getD (s .jobs) i zeroJob) .deadline
 unfoldable pub speedsOf : Counted → List ℕ
 speedsOf s = listed (speedAt s) (s .speedCount)
 
+-- this speed stands at a place
+abbrev pub isSpeedAt : Counted → ℕ → ℕ → Bool
+isSpeedAt s speed j = eqb (speedAt s j) speed
+
 -- a speed is on the sheet
 unfoldable pub onSheet : Counted → ℕ → Bool
-onSheet s speed = anywhere (λ j. eqb (speedAt s j) speed) (s .speedCount)
+onSheet s speed = anywhere (isSpeedAt s speed) (s .speedCount)
+
+-- its place; the count of speeds where it is not on the sheet
+abbrev pub placeOfSpeed : Counted → ℕ → ℕ
+placeOfSpeed s speed = firstPlace (isSpeedAt s speed) (s .speedCount)
 
 -- the energy per slot of a speed that is on the sheet
 unfoldable pub energyOf : Counted → ℕ → ℕ
-energyOf s speed = energyAt s (firstPlace (λ j. eqb (speedAt s j) speed) (s .speedCount))
+energyOf s speed = energyAt s (placeOfSpeed s speed)
 
 -- "W is the sum of the weights"
 unfoldable pub W : Counted → ℕ

@@ -9,7 +9,7 @@ use lib.Dec.{leb, ltb, eqb}
 use lib.ListN.{length, getD, take, drop}
 use Rattle.process.specs.Ways.{Process, IsValue, IsCost, IsFirst}
 use Rattle.model.specs.Counted.{Counted, sizeAt, deadlineAt, weightAt, speedsOf, onSheet, energyOf, M}
-use Rattle.model.specs.Queue.{Queue, total, emptyQueue, bearable, oneSlot, bearableQueues}
+use Rattle.model.specs.Queue.{Queue, total, emptyQueue, bearable, oneSlot, bearableQueues, numberOf}
 use Rattle.model.specs.Refusal.{sheetRefusal, N}
 use Rattle.model.specs.Tests.{check, _then_, everywhere}
 
@@ -38,6 +38,10 @@ admissible s w speed =
 -- "The value of slot t and queue w is the least scaled energy of a good way over the last T-t slots, or none"; t is at most T
 abbrev pub IsValueAt : Counted → ℕ → Queue → Option ℕ → Type 0
 IsValueAt s t w r = IsValue (processOf s) (s .jobCount) (weightAt s) (s .horizon - t) w r
+
+-- a slot and queue have a value: some way from there is good
+abbrev pub HasValue : Counted → ℕ → Queue → Type 0
+HasValue s t w = (v : ℕ) × IsValueAt s t w (some v)
 
 -- what a speed costs there: the least scaled energy of a good way that begins with it
 abbrev pub IsCostAt : Counted → ℕ → Queue → ℕ → ℕ → Type 0
@@ -71,6 +75,10 @@ queueAt s i = getD (bearableQueues (M s) (s .bound)) i []
 -- "row t from place t times N"
 abbrev pub placeAt : Counted → ℕ → ℕ → ℕ
 placeAt s t i = t * N s + i
+
+-- the place of a slot and a bearable queue, by the queue's number
+abbrev pub placeOfQueue : Counted → ℕ → Queue → ℕ
+placeOfQueue s t w = placeAt s t (numberOf (M s) w)
 
 -- how many places are lent: "values, (T+1) times N places of 64 bits ..; and the plan, T times N bytes"
 

@@ -6,8 +6,8 @@ use mathlib.Core.List.{List}
 use lib.Dec.{leb, eqb}
 use lib.ListN.{length, getD, replicate}
 use Rattle.model.specs.Counted.{Counted, sizeAt, deadlineAt, onSheet, energyOf, greatestEnergy, M}
-use Rattle.model.specs.Plan.{placeAt, planNeeded}
-use Rattle.model.specs.Queue.{Queue, total, positions, queueIn, placesOf, bearable, bearableIn, oneSlot, numberOf}
+use Rattle.model.specs.Plan.{placeOfQueue, planNeeded}
+use Rattle.model.specs.Queue.{Queue, total, positions, queueIn, placesOf, bearable, bearableIn, oneSlot}
 use Rattle.model.specs.Refusal.{sheetRefusal}
 use Rattle.model.specs.Tests.{check, _then_, anywhere}
 
@@ -51,7 +51,7 @@ start s x =
 
 -- "Speed reads the plan byte at the state's slot and queue number"
 unfoldable pub planByte : Counted → List ℕ → State → ℕ
-planByte s plan x = getD plan (placeAt s (x .slot) (numberOf (M s) (queueOf s x))) 0
+planByte s plan x = getD plan (placeOfQueue s (x .slot) (queueOf s x)) 0
 
 -- "16: the plan byte is no sheet speed, or is below w(1)"
 unfoldable pub byteRight : Counted → State → ℕ → Bool
@@ -76,9 +76,13 @@ speed s plan x =
     let number = speedRefusal s plan x in
     record { number = number; speed = cond (eqb number 0) (planByte s plan x) 0 }
 
+-- the entry at a place has this size and this deadline
+abbrev pub isEntryAt : Counted → ℕ → ℕ → ℕ → Bool
+isEntryAt s size deadline i = eqb (sizeAt s i) size && eqb (deadlineAt s i) deadline
+
 -- "15: no entry has this size and deadline"
 unfoldable pub isEntry : Counted → ℕ → ℕ → Bool
-isEntry s size deadline = anywhere (λ i. eqb (sizeAt s i) size && eqb (deadlineAt s i) deadline) (s .jobCount)
+isEntry s size deadline = anywhere (isEntryAt s size deadline) (s .jobCount)
 
 -- "it runs the slot at that speed, adds its energy, adds the job, and moves the slot on by one"
 unfoldable pub moved : Counted → State → ℕ → ℕ → ℕ → State
@@ -89,14 +93,21 @@ moved s x byte size deadline =
       energy = x .energy + energyOf s byte;
     }
 
--- "Advance: the same, then 15, 17, 18": "17: the next queue would not be bearable", "18: the new energy total would pass 4,294,967,295"
+-- of number 18
+abbrev pub energyLimit : ℕ
+energyLimit = 4294967295
+
+-- of the next state: "17: the next queue would not be bearable", "18: the new energy total would pass 4,294,967,295"
+abbrev pub nextRefusal : Counted → State → ℕ
+nextRefusal s next = check (bearable (M s) (queueOf s next)) 17 then check (leb (next .energy) energyLimit) 18
+
+-- "Advance: the same, then 15, 17, 18"
 unfoldable pub advanceRefusal : Counted → List ℕ → State → ℕ → ℕ → ℕ
 advanceRefusal s plan x size deadline =
     let next = moved s x (planByte s plan x) size deadline in
     speedRefusal s plan x then
     check (isEntry s size deadline) 15 then
-    check (bearable (M s) (queueOf s next)) 17 then
-    check (leb (next .energy) 4294967295) 18
+    nextRefusal s next
 
 -- "a refused advance hands back the state it got"
 unfoldable pub advance : Counted → List ℕ → State → ℕ → ℕ → Stepped

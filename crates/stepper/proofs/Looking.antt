@@ -8,48 +8,43 @@ use lib.Dec.{T, ltb, eqb, ltb→lt, eqb→eq}
 use lib.ListN.{getD}
 use Rattle.model.proofs.Refusal.{ranged}
 use Rattle.model.proofs.Tests.{and-left, anywhere-at, first-more, first-found, anywhere-first, anywhere-more, anywhere-found}
-use Rattle.model.specs.Counted.{counted, zeroSpeed, zeroJob, speedAt, energyAt, sizeAt, deadlineAt, onSheet, energyOf}
+use Rattle.model.specs.Counted.{counted, zeroSpeed, zeroJob, speedAt, energyAt, sizeAt, isSpeedAt, onSheet, placeOfSpeed, energyOf}
 use Rattle.model.specs.Refusal.{fieldsRefusal}
-use Rattle.model.specs.Stepper.{isEntry}
+use Rattle.model.specs.Stepper.{isEntryAt, isEntry}
 use Rattle.model.specs.Tests.{firstPlace, anywhere}
 use Rattle.model.specs.declared.Job.{Job}
 use Rattle.model.specs.declared.Sheet.{Sheet}
 use Rattle.model.specs.declared.Speed.{Speed}
 use Rattle.sheets.proofs.Places.{speed-counts, job-counts}
-use Rattle.stepper.specs.Parts.{placeOfSpeed}
 
 module _ (s : Sheet) where
   -- a speed on the sheet
 
-  -- whether it stands at a place
-  abbrev pub isSpeed : ℕ → ℕ → Bool
-  isSpeed a j = eqb (speedAt (counted s) j) a
-
   -- the search: not found so far and not here
-  pub speed-not-here : (a j : ℕ) → firstPlace (isSpeed a) j ≡ j → j < s .«speed_count» → ((getD (s .speeds) j zeroSpeed) .speed ≡ a → ⊥) →
-      firstPlace (isSpeed a) (j + 1) ≡ j + 1
+  pub speed-not-here : (a j : ℕ) → firstPlace (isSpeedAt (counted s) a) j ≡ j → j < s .«speed_count» → ((getD (s .speeds) j zeroSpeed) .speed ≡ a → ⊥) →
+      firstPlace (isSpeedAt (counted s) a) (j + 1) ≡ j + 1
   speed-not-here a j below h other =
       let same = ap (λ (one : Speed). one .speed) (speed-counts s j h) in
-      first-more (isSpeed a) j below (ne-eqb (speedAt (counted s) j) a (λ e. other (sym same ∙ e)))
+      first-more (isSpeedAt (counted s) a) j below (ne-eqb (speedAt (counted s) j) a (λ e. other (sym same ∙ e)))
 
   -- not found so far, but here
-  pub speed-found : (a j : ℕ) → firstPlace (isSpeed a) j ≡ j → j < s .«speed_count» → (getD (s .speeds) j zeroSpeed) .speed ≡ a →
+  pub speed-found : (a j : ℕ) → firstPlace (isSpeedAt (counted s) a) j ≡ j → j < s .«speed_count» → (getD (s .speeds) j zeroSpeed) .speed ≡ a →
       j ≡ placeOfSpeed (counted s) a
   speed-found a j below h here =
       let same = ap (λ (one : Speed). one .speed) (speed-counts s j h) in
-      sym (first-found (isSpeed a) j (s .«speed_count») below (eq-eqb (speedAt (counted s) j) a (same ∙ here)) h)
+      sym (first-found (isSpeedAt (counted s) a) j (s .«speed_count») below (eq-eqb (speedAt (counted s) j) a (same ∙ here)) h)
 
   -- found nowhere
-  pub speed-nowhere : (a j : ℕ) → firstPlace (isSpeed a) j ≡ j → j ≤ s .«speed_count» → s .«speed_count» ≤ j →
+  pub speed-nowhere : (a j : ℕ) → firstPlace (isSpeedAt (counted s) a) j ≡ j → j ≤ s .«speed_count» → s .«speed_count» ≤ j →
       j ≡ placeOfSpeed (counted s) a
   speed-nowhere a j below h l =
       let all : j ≡ s .«speed_count» = omega arith in
-      sym below ∙ ap (firstPlace (isSpeed a)) all
+      sym below ∙ ap (firstPlace (isSpeedAt (counted s) a)) all
 
   -- it is on the sheet exactly where its place is below the count
   pub on-sheet-place : (a : ℕ) → onSheet (counted s) a ≡ ltb (placeOfSpeed (counted s) a) (s .«speed_count»)
   unfolding onSheet
-  on-sheet-place a = anywhere-first (isSpeed a) (s .«speed_count»)
+  on-sheet-place a = anywhere-first (isSpeedAt (counted s) a) (s .«speed_count»)
 
   -- its energy is the one that stands there
   pub energy-at-place : (a j : ℕ) → j ≡ placeOfSpeed (counted s) a → T (onSheet (counted s) a) →
@@ -62,22 +57,18 @@ module _ (s : Sheet) where
 
   -- an arrival on the sheet
 
-  -- whether the entry at a place has this size and deadline
-  abbrev pub isArrival : ℕ → ℕ → ℕ → Bool
-  isArrival size deadline i = eqb (sizeAt (counted s) i) size && eqb (deadlineAt (counted s) i) deadline
-
   -- what was asked of the job in memory there is that
   asked-here : (size deadline i : ℕ) {r : Bool} → i < s .«job_count» →
-      r ≡ eqb ((getD (s .jobs) i zeroJob) .size) size && eqb ((getD (s .jobs) i zeroJob) .deadline) deadline → r ≡ isArrival size deadline i
+      r ≡ eqb ((getD (s .jobs) i zeroJob) .size) size && eqb ((getD (s .jobs) i zeroJob) .deadline) deadline → r ≡ isEntryAt (counted s) size deadline i
   asked-here size deadline i h e =
       e ∙ sym (ap (λ (one : Job). eqb (one .size) size && eqb (one .deadline) deadline) (job-counts s i h))
 
   -- the search: not found so far and not here
-  pub entry-not-here : (size deadline i : ℕ) {r : Bool} → anywhere (isArrival size deadline) i ≡ false → i < s .«job_count» →
+  pub entry-not-here : (size deadline i : ℕ) {r : Bool} → anywhere (isEntryAt (counted s) size deadline) i ≡ false → i < s .«job_count» →
       r ≡ eqb ((getD (s .jobs) i zeroJob) .size) size && eqb ((getD (s .jobs) i zeroJob) .deadline) deadline → r ≡ false →
-      anywhere (isArrival size deadline) (i + 1) ≡ false
+      anywhere (isEntryAt (counted s) size deadline) (i + 1) ≡ false
   entry-not-here size deadline i below h e other =
-      anywhere-more (isArrival size deadline) i below (sym (asked-here size deadline i h e) ∙ other)
+      anywhere-more (isEntryAt (counted s) size deadline) i below (sym (asked-here size deadline i h e) ∙ other)
 
   -- found here
   pub entry-found : (size deadline i : ℕ) {r : Bool} → i < s .«job_count» →
@@ -85,20 +76,20 @@ module _ (s : Sheet) where
       true ≡ isEntry (counted s) size deadline
   unfolding isEntry
   entry-found size deadline i h e here =
-      sym (anywhere-found (isArrival size deadline) (s .«job_count») i h (sym (asked-here size deadline i h e) ∙ here))
+      sym (anywhere-found (isEntryAt (counted s) size deadline) (s .«job_count») i h (sym (asked-here size deadline i h e) ∙ here))
 
   -- found nowhere
-  pub entry-nowhere : (size deadline i : ℕ) → anywhere (isArrival size deadline) i ≡ false → i ≤ s .«job_count» → s .«job_count» ≤ i →
+  pub entry-nowhere : (size deadline i : ℕ) → anywhere (isEntryAt (counted s) size deadline) i ≡ false → i ≤ s .«job_count» → s .«job_count» ≤ i →
       false ≡ isEntry (counted s) size deadline
   unfolding isEntry
   entry-nowhere size deadline i below h l =
       let all : i ≡ s .«job_count» = omega arith in
-      sym below ∙ ap (anywhere (isArrival size deadline)) all
+      sym below ∙ ap (anywhere (isEntryAt (counted s) size deadline)) all
 
   -- an arrival that is an entry has a size that can be added
   pub entry-small : (size deadline : ℕ) → fieldsRefusal (counted s) ≡ 0 → T (isEntry (counted s) size deadline) → size ≤ 255
   unfolding isEntry
   entry-small size deadline right t =
-      let f = anywhere-at (isArrival size deadline) (s .«job_count») t in
+      let f = anywhere-at (isEntryAt (counted s) size deadline) (s .«job_count») t in
       let same = eqb→eq (sizeAt (counted s) (f .0)) size (and-left (eqb (sizeAt (counted s) (f .0)) size) _ (f .2)) in
       omega (arith, same, ranged (counted s) right .size-high (f .0) (f .1))

@@ -6,11 +6,11 @@ use mathlib.Core.List.{List}
 use native.Mathlib.Omega.{arith}
 use borrow.Author.Tests.{le-leb, lt-leb, ne-eqb}
 use lib.Dec.{leb, eqb}
-use Rattle.model.proofs.Stepper.{speed-by, moved-by, advance-by, advance-17-or-18}
+use Rattle.model.proofs.Stepper.{speed-by, moved-by, advance-by, advance-refusal-next}
 use Rattle.model.proofs.Tests.{check-true, check-false, then-passes, then-fails}
 use Rattle.model.specs.Counted.{Counted, energyOf, M}
 use Rattle.model.specs.Queue.{queueIn, placesOf, bearable, oneSlot}
-use Rattle.model.specs.Tests.{check, _then_}
+use Rattle.model.specs.Tests.{_then_}
 use Rattle.model.specs.Stepper as model
 use Rattle.stepper.specs.Calls.{stateOf, IsStepped, IsTold}
 use Rattle.stepper.specs.Parts.{movedOrRefused}
@@ -50,7 +50,7 @@ module _ (s : Counted) (x : model.State) (speed size deadline : ℕ) where
   next = model.moved s x speed size deadline
 
   -- by its number
-  moved-by-number : {number : ℕ} → check (bearable (M s) (model.queueOf s next)) 17 then check (leb (next .energy) 4294967295) 18 ≡ number →
+  moved-by-number : {number : ℕ} → model.nextRefusal s next ≡ number →
       movedOrRefused s x speed size deadline ≡ record { number = number; state = cond (eqb number 0) next x }
   unfolding movedOrRefused
   moved-by-number e = λ i. record { number = e i; state = cond (eqb (e i) 0) next x }
@@ -69,22 +69,22 @@ module _ (s : Counted) (x : model.State) (speed size deadline : ℕ) where
   moved-17 wrong = moved-by-number (then-fails (bearable (M s) (model.queueOf s next)) 16 _ wrong)
 
   -- 18: the state stays
-  pub moved-18 : bearable (M s) (model.queueOf s next) ≡ true → 4294967295 < x .energy + energyOf s speed →
+  pub moved-18 : bearable (M s) (model.queueOf s next) ≡ true → model.energyLimit < x .energy + energyOf s speed →
       movedOrRefused s x speed size deadline ≡ record { number = 18; state = x }
   moved-18 right over =
       let energy = ap (λ (y : model.State). y .energy) (moved-by s x speed size deadline) in
       moved-by-number
       (then-passes (bearable (M s) (model.queueOf s next)) 17 _ right ∙
-      check-false (leb (next .energy) 4294967295) 18 (lt-leb (next .energy) 4294967295 (omega (arith, energy))))
+      check-false (leb (next .energy) model.energyLimit) 18 (lt-leb (next .energy) model.energyLimit (omega (arith, energy))))
 
   -- neither: the next state
-  pub moved-0 : bearable (M s) (model.queueOf s next) ≡ true → x .energy + energyOf s speed ≤ 4294967295 →
+  pub moved-0 : bearable (M s) (model.queueOf s next) ≡ true → x .energy + energyOf s speed ≤ model.energyLimit →
       movedOrRefused s x speed size deadline ≡ record { number = 0; state = next }
   moved-0 right small =
       let energy = ap (λ (y : model.State). y .energy) (moved-by s x speed size deadline) in
       moved-by-number
       (then-passes (bearable (M s) (model.queueOf s next)) 17 _ right ∙
-      check-true (leb (next .energy) 4294967295) 18 (le-leb (next .energy) 4294967295 (omega (arith, energy))))
+      check-true (leb (next .energy) model.energyLimit) 18 (le-leb (next .energy) model.energyLimit (omega (arith, energy))))
 
   -- where the speed is the plan's and the arrival an entry, this is the advance
   pub moved-advances : (plan : List ℕ) → speed ≡ model.planByte s plan x → model.speedRefusal s plan x ≡ 0 →
@@ -92,4 +92,4 @@ module _ (s : Counted) (x : model.State) (speed size deadline : ℕ) where
   unfolding movedOrRefused
   moved-advances plan e passed entry =
       ap (λ (byte : ℕ). movedOrRefused s x byte size deadline) e ∙
-      sym (advance-by s plan x size deadline (advance-17-or-18 s plan x size deadline passed entry))
+      sym (advance-by s plan x size deadline (advance-refusal-next s plan x size deadline passed entry))

@@ -3,14 +3,14 @@ use Prim.Native.Nat.{_-_, _≤_}
 use mathlib.Core.Path.{_≡_, refl}
 use native.Mathlib.Omega.{arith}
 use Rattle.model.proofs.Refusal.{ranged}
-use Rattle.model.specs.Counted.{counted}
+use Rattle.model.specs.Counted.{counted, isSpeedAt}
 use Rattle.model.specs.Tests.{firstPlace}
-use Rattle.stepper.proofs.Looking.{isSpeed, speed-not-here, speed-found, speed-nowhere}
+use Rattle.stepper.proofs.Looking.{speed-not-here, speed-found, speed-nowhere}
 use Rattle.stepper.proofs.look.place_of.Statement.{statement}
 use Rattle.stepper.proofs.look.place_of.Tie as tie
 
 abbrev Inv-loop : tie.InvT-loop
-Inv-loop speed sheet place₀ place = (firstPlace (isSpeed sheet speed) place ≡ place) × (place ≤ sheet .«speed_count»)
+Inv-loop speed sheet place₀ place = (firstPlace (isSpeedAt (counted sheet) speed) place ≡ place) × (place ≤ sheet .«speed_count»)
 
 abbrev μ-loop : tie.MeasureT-loop
 μ-loop speed sheet place₀ place = sheet .«speed_count» - place

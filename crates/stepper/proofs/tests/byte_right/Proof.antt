@@ -7,13 +7,12 @@ use borrow.Author.Tests.{lt-ltb, le-ltb}
 use lib.Dec.{leb}
 use Rattle.model.proofs.Refusal.{ranged}
 use Rattle.model.proofs.Stepper.{wrong-byte, first-decides}
-use Rattle.model.specs.Counted.{counted}
+use Rattle.model.specs.Counted.{counted, placeOfSpeed}
 use Rattle.queues.proofs.Places.{total-in}
 use Rattle.stepper.proofs.Looking.{on-sheet-place}
 use Rattle.stepper.proofs.tests.byte_right.Statement.{statement}
 use Rattle.stepper.proofs.tests.byte_right.Tie as tie
 use Rattle.stepper.specs.Calls.{stateOf}
-use Rattle.stepper.specs.Parts.{placeOfSpeed}
 
 place-of-requires : tie.Need-place-of-requires
 place-of-requires c κs = search needs

@@ -6,7 +6,7 @@ use borrow.Author.Needs.{needs}
 use lib.Dec.{T}
 use Rattle.model.proofs.Refusal.{fields-right}
 use Rattle.model.proofs.Rooms.{row-accepted}
-use Rattle.model.proofs.Stepper.{speed-by, speed-accepted, byte-on-sheet, advance-by, advance-refused, advance-15}
+use Rattle.model.proofs.Stepper.{speed-by, speed-accepted, byte-on-sheet, advance-by, advance-refusal-speed, advance-refusal-15}
 use Rattle.model.specs.Counted.{counted, onSheet}
 use Rattle.model.specs.Refusal.{fieldsRefusal}
 use Rattle.model.specs.Stepper.{Stepped, Told, planByte, speedRefusal, isEntry, moved}
@@ -58,7 +58,7 @@ returns c =
     let x = stateOf (a .self) in
     stepped-as (a .self)
     (advance-by s (a .plan .now) x (a .size) (a .deadline)
-    (advance-refused s (a .plan .now) x (a .size) (a .deadline) (refusal (c .before)) (c .if1 .taken)))
+    (advance-refusal-speed s (a .plan .now) x (a .size) (a .deadline) (refusal (c .before)) (c .if1 .taken)))
     (refused-gives (moved s x (planByte s (a .plan .now) x) (a .size) (a .deadline)) x (c .if1 .taken))
 
 is-entry-requires : tie.Need-is-entry-requires
@@ -72,7 +72,7 @@ returns-2 c =
     let x = stateOf (a .self) in
     stepped-as (a .self)
     (advance-by s (a .plan .now) x (a .size) (a .deadline)
-    (advance-15 s (a .plan .now) x (a .size) (a .deadline) (passed accepted) (failed-by (c .before .is-entry .ensures) (c .if2 .taken))))
+    (advance-refusal-15 s (a .plan .now) x (a .size) (a .deadline) (passed accepted) (failed-by (c .before .is-entry .ensures) (c .if2 .taken))))
     refl
 
 -- behind the second one the arrival is an entry

@@ -8,7 +8,7 @@ use lib.Dec.{T}
 use lib.ListN.{length}
 use Rattle.model.proofs.Refusal.{fields-right}
 use Rattle.model.proofs.Rooms.{row-accepted}
-use Rattle.model.proofs.Stepper.{state-right, speed-refused, speed-13, speed-14, speed-16-or-0, byte-at}
+use Rattle.model.proofs.Stepper.{state-right, speed-refusal-row, speed-refusal-13, speed-refusal-14, speed-refusal-16-or-0, byte-at}
 use Rattle.model.proofs.Tests.{check-true, check-false}
 use Rattle.model.specs.Counted.{counted}
 use Rattle.model.specs.Plan.{rowRefusal}
@@ -63,7 +63,7 @@ returns c =
     let s = counted (a .sheet) in
     let some = c .before .if1 .taken in
     told-refused s (a .plan .now) (stateOf (a .self))
-    (speed-refused s (a .plan .now) (stateOf (a .self)) (c .before .before .row-refusal .ensures) some) some (c .refused .ensures)
+    (speed-refusal-row s (a .plan .now) (stateOf (a .self)) (c .before .before .row-refusal .ensures) some) some (c .refused .ensures)
 
 state-right-requires : tie.Need-state-right-requires
 state-right-requires c κs = fields c
@@ -77,7 +77,7 @@ returns-2 c =
     let a = told .before .before .before .before .before .before .args in
     let s = counted (a .sheet) in
     told-refused s (a .plan .now) (stateOf (a .self))
-    (speed-13 s (a .plan .now) (stateOf (a .self)) (passed (told .before)) (failed-by (told .state-right .ensures) (c .before .if2 .taken)))
+    (speed-refusal-13 s (a .plan .now) (stateOf (a .self)) (passed (told .before)) (failed-by (told .state-right .ensures) (c .before .if2 .taken)))
     (λ e. omega arith) (c .refused2 .ensures)
 
 refused-requires-3 : tie.Need-refused-requires-3
@@ -89,7 +89,7 @@ returns-3 c =
     let a = told .before .before .before .before .before .before .before .args in
     let s = counted (a .sheet) in
     told-refused s (a .plan .now) (stateOf (a .self))
-    (speed-14 s (a .plan .now) (stateOf (a .self)) (passed (told .before .before)) (right told) (c .before .if3 .taken))
+    (speed-refusal-14 s (a .plan .now) (stateOf (a .self)) (passed (told .before .before)) (right told) (c .before .if3 .taken))
     (λ e. omega arith) (c .refused3 .ensures)
 
 plan-byte-requires : tie.Need-plan-byte-requires
@@ -115,7 +115,7 @@ number c =
     let a = accepted .before .before .before .before .before .args in
     let s = counted (a .sheet) in
     let x = stateOf (a .self) in
-    speed-16-or-0 s (a .plan .now) x (passed accepted) (right told) (later .if3 .left) ∙
+    speed-refusal-16-or-0 s (a .plan .now) x (passed accepted) (right told) (later .if3 .left) ∙
     ap (λ (b : Bool). check b 16) (ap (byteRight s x) (sym (byte c)) ∙ sym (c .byte-right .ensures))
 
 refused-requires-4 : tie.Need-refused-requires-4

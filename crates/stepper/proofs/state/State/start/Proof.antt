@@ -2,7 +2,7 @@
 use mathlib.Core.Path.{_≡_, refl, sym, _∙_}
 use borrow.Author.Needs.{needs}
 use Rattle.model.proofs.Refusal.{fields-right}
-use Rattle.model.proofs.Stepper.{start-by, start-refused, start-13, start-0}
+use Rattle.model.proofs.Stepper.{start-by, start-refusal-sheet, start-refusal-13, start-refusal-0}
 use Rattle.model.specs.Counted.{counted}
 use Rattle.model.specs.Refusal.{sheetRefusal}
 use Rattle.model.specs.Stepper.{zeroState}
@@ -31,7 +31,7 @@ returns c =
     let some = c .before .if1 .taken in
     stepped-as (c .zero-state .result)
     (start-by (counted (a .sheet)) (stateOf (a .self))
-    (start-refused (counted (a .sheet)) (stateOf (a .self)) (c .before .before .sheet-refusal .ensures) some))
+    (start-refusal-sheet (counted (a .sheet)) (stateOf (a .self)) (c .before .before .sheet-refusal .ensures) some))
     (c .zero-state .ensures ∙ refused-gives (record { queue = a .self .queue; slot = 0; energy = 0 }) zeroState some)
 
 queue-right-requires : tie.Need-queue-right-requires
@@ -46,7 +46,7 @@ returns-2 c =
     let a = told .before .before .before .before .before .args in
     stepped-as (c .zero-state2 .result)
     (start-by (counted (a .sheet)) (stateOf (a .self))
-    (start-13 (counted (a .sheet)) (stateOf (a .self)) (passed (told .before))
+    (start-refusal-13 (counted (a .sheet)) (stateOf (a .self)) (passed (told .before))
     (failed-by (told .queue-right .ensures) (c .before .if2 .taken))))
     (c .zero-state2 .ensures)
 
@@ -56,7 +56,7 @@ returns-3 c =
     let a = told .before .before .before .before .before .args in
     stepped-as _
     (start-by (counted (a .sheet)) (stateOf (a .self))
-    (start-0 (counted (a .sheet)) (stateOf (a .self)) (passed (told .before))
+    (start-refusal-0 (counted (a .sheet)) (stateOf (a .self)) (passed (told .before))
     (passed-by (told .queue-right .ensures) (c .before .if2 .left))))
     refl
 
