@@ -16,7 +16,7 @@ use lib.ListN.{length}
 use Rattle.process.proofs.Definite.{value-unique}
 use Rattle.model.specs.Bytes.{sheetBytes, writeRefusal, write}
 use Rattle.model.specs.Counted.{Counted, counted, inMemory, speedAt, energyAt, weightAt, zeroSheet, W, M, G}
-use Rattle.model.specs.Plan.{processOf, valueIn, valuesNeeded, planNeeded, planRefusal, number12, Filled, LeavesBy, rowRefusal}
+use Rattle.model.specs.Plan.{processOf, IsValueAt, valueIn, valuesNeeded, planNeeded, planRefusal, number12, Filled, LeavesBy, rowRefusal}
 use Rattle.model.specs.Plan as model-plan
 use Rattle.model.specs.Queue.{emptyQueue, bearable}
 use Rattle.model.specs.Refusal.{boundRight, speedCountRight, speedRight, energyRight, horizonRight, jobCountRight, valueLimit, sheetRefusal, N}
@@ -28,7 +28,7 @@ use Rattle.codec.specs.declared.reader.ReadSheet.{ReadSheet}
 use Rattle.codec.specs.declared.writer.Written.{Written}
 use Rattle.planner.specs.declared.calls.PlanAnswer.{PlanAnswer}
 use Rattle.model.specs.Stepper as model-stepper
-use Rattle.model.specs.Stepper.{queueOf, queueRight, stateRight, planByte, byteRight, isEntry, moved, zeroState}
+use Rattle.model.specs.Stepper.{queueOf, queueRight, stateRight, planByte, byteRight, speedRefusal, isEntry, moved, energyLimit, zeroState}
 use Rattle.model.proofs.Stepper.{speed-accepted, byte-on-sheet, moved-by}
 use Rattle.model.proofs.Stepping.{energy-small}
 use Rattle.stepper.specs.Calls.{stateOf}
@@ -36,7 +36,7 @@ use Rattle.stepper.specs.declared.state.State.{State}
 use Rattle.stepper.specs.declared.state.Stepped.{Stepped}
 use Rattle.stepper.specs.declared.state.Told.{Told}
 use Rattle.demands.specs.Calls.{Reads, Writes, Plans, Rows, Starts, Speeds, Advances}
-use Rattle.demands.specs.Numbers.{Line, line, AllPass, FailsFirst, Tells, PlanTells, OneOf, linesOfJob, fieldLines, linesToSpeedCount, linesToSpeed, linesToEnergy, linesToHorizon, linesToJobCount, linesToJob, limitLines, nothing, sheetLines, writeLines, planLines, rowLines, startLines, speedLines, advanceLines, linesTo9, linesTo14, linesTo16, linesTo17, linesTo18, sheetIn, endOf, reading, readLines}
+use Rattle.demands.specs.Numbers.{Line, line, AllPass, FailsFirst, Tells, PlanTells, OneOf, linesOfJob, fieldLines, linesToSpeedCount, linesToSpeed, linesToEnergy, linesToHorizon, linesToJobCount, linesToJob, valueFits, limitLines, nothing, sheetLines, writeLines, planLines, rowLines, startLines, speedLines, advanceLines, linesTo9, linesTo14, linesTo16, linesTo17, linesTo18, sheetIn, endOf, endLine, reading, readLines}
 use Rattle.demands.proofs.Demand2.{planned-filled}
 use Rattle.demands.proofs.Determined.{answered, read-is, write-is, plan-is, row-is, start-is, speed-is, advance-is}
 use Rattle.demands.proofs.InOrder.{Each, Other, all-front, each-append, all-or-fails, fails-at, tells-at, fails-front, tells-front, tells-so, one-of, one-of-range}
@@ -87,7 +87,7 @@ sheet-8 s = fields-8 nothing s (limitLines s) (sheet-told s) (λ k. tt) (limits-
 
 -- "9: T times G times W to the power T exceeds 2^63-1"
 pub sheet-9 : (s : Counted) →
-    (sheetRefusal s ≡ 9) ↔ (AllPass (fieldLines nothing s) × (leb (s .horizon * G s * W s ^ s .horizon) valueLimit ≡ false))
+    (sheetRefusal s ≡ 9) ↔ (AllPass (fieldLines nothing s) × (valueFits s ≡ false))
 unfolding sheetLines
 sheet-9 s =
     limits-9 (fieldLines nothing s) s (sheet-told s) (fields-numbers (Other 9) nothing s (λ k. tt) (λ m h k e. omega arith))
@@ -95,7 +95,7 @@ sheet-9 s =
 -- "10: N above 65,535"
 pub sheet-10 : (s : Counted) →
     (sheetRefusal s ≡ 10) ↔
-    (AllPass (fieldLines nothing s ++ line 9 (leb (s .horizon * G s * W s ^ s .horizon) valueLimit) ∷ []) × (leb (N s) 65535 ≡ false))
+    (AllPass (fieldLines nothing s ++ line 9 (valueFits s) ∷ []) × (leb (N s) 65535 ≡ false))
 unfolding sheetLines
 sheet-10 s =
     limits-10 (fieldLines nothing s) s (sheet-told s) (fields-numbers (Other 10) nothing s (λ k. tt) (λ m h k e. omega arith))
@@ -135,7 +135,7 @@ to-9-other bytes n h =
 
 -- after all the fields there are 3, 9 and 10
 after-fields-other : (bytes : List ℕ) (n : ℕ) → 3 < n → n < 9 →
-    Each (Other n) (line 3 (leb (length bytes) (endOf bytes)) ∷ limitLines (sheetIn bytes))
+    Each (Other n) (endLine bytes ∷ limitLines (sheetIn bytes))
 after-fields-other bytes n h k = (λ e. omega arith, limits-other (sheetIn bytes) n k)
 
 -- all the lines of a read are 1 to 10
@@ -155,6 +155,10 @@ module _ {bytes : List ℕ} {a : ReadSheet} (call : Reads bytes a) where
   read-gives =
       let numbers : List ℕ = 0 ∷ 1 ∷ 2 ∷ 3 ∷ 4 ∷ 5 ∷ 6 ∷ 7 ∷ 8 ∷ 9 ∷ 10 ∷ [] in
       tells-so (OneOf numbers) (read-tells call) (read-numbers (OneOf numbers) bytes (one-of-range numbers 1 10 tt)) (inl refl)
+
+  -- "0: done"
+  pub read-0 : (a .number ≡ 0) ↔ AllPass (readLines bytes)
+  read-0 = read-tells call .done
 
   -- "1: the bytes end inside a number or before a field": of some number of the bytes, every earlier line passing
   pub read-1 : (a .number ≡ 1) ↔ FailsFirst (readLines bytes) 1
@@ -228,14 +232,14 @@ module _ {bytes : List ℕ} {a : ReadSheet} (call : Reads bytes a) where
   -- "9: T times G times W to the power T exceeds 2^63-1"
   pub read-9 :
       let s = sheetIn bytes in
-      (a .number ≡ 9) ↔ (AllPass (linesTo9 bytes) × (leb (s .horizon * G s * W s ^ s .horizon) valueLimit ≡ false))
+      (a .number ≡ 9) ↔ (AllPass (linesTo9 bytes) × (valueFits s ≡ false))
   read-9 = limits-9 (linesTo9 bytes) (sheetIn bytes) to-9-told (to-9-other bytes 9 (omega arith))
 
   -- "10: N above 65,535"
   pub read-10 :
       let s = sheetIn bytes in
       (a .number ≡ 10) ↔
-      (AllPass (linesTo9 bytes ++ line 9 (leb (s .horizon * G s * W s ^ s .horizon) valueLimit) ∷ []) × (leb (N s) 65535 ≡ false))
+      (AllPass (linesTo9 bytes ++ line 9 (valueFits s) ∷ []) × (leb (N s) 65535 ≡ false))
   read-10 = limits-10 (linesTo9 bytes) (sheetIn bytes) to-9-told (to-9-other bytes 10 (omega arith))
 
 -- write: "Planner, writer and row: 4 to 10, 11"
@@ -266,6 +270,11 @@ write-refused {sheet = sheet} {before = before} call refused =
     let same = promised .number-is ∙ write-number s before in
     let test = ne-eqb (writeRefusal s (length before)) 0 (λ e. refused (same ∙ e)) in
     (promised .written-is ∙ rw test, promised .buffer-is ∙ rw test)
+
+-- "0: done"
+pub write-0 : {sheet : Sheet} {before after : List ℕ} {a : Written} → Writes sheet before a after →
+    (a .number ≡ 0) ↔ AllPass (writeLines (counted sheet) (length before))
+write-0 call = write-tells call .done
 
 -- 4 to 10: the sheet's own number
 pub write-sheet : {sheet : Sheet} {before after : List ℕ} {a : Written} → Writes sheet before a after → (n : ℕ) → 0 < n → n ≤ 10 →
@@ -327,10 +336,23 @@ module _ {sheet : Sheet} {values₀ plan₀ values bytes : List ℕ} {a : PlanAn
         leaves .plan-kept,
       )
 
+  -- "0: done"
+  pub plan-0 :
+      let s = counted sheet in
+      (a .number ≡ 0) ↔
+      (AllPass (planLines s (length values₀) (length plan₀)) × (v : ℕ) × IsValueAt s 0 (emptyQueue (s .bound)) (some v))
+  plan-0 = plan-tells .done
+
+  -- "12: planned, but the empty queue at slot 0 has none"
+  pub plan-12 :
+      let s = counted sheet in
+      (a .number ≡ 12) ↔ (AllPass (planLines s (length values₀) (length plan₀)) × IsValueAt s 0 (emptyQueue (s .bound)) none)
+  plan-12 = plan-tells .twelve
+
   -- 12 "fills both buffers and reports N, least energy 0"
-  pub plan-12 : a .number ≡ 12 →
+  pub plan-12-fills : a .number ≡ 12 →
       Filled valueIn (counted sheet) values₀ plan₀ values bytes (answered a) × (a .queues ≡ N (counted sheet)) × (a .least ≡ 0)
-  plan-12 e =
+  plan-12-fills e =
       let s = counted sheet in
       let tested = plan-tells .twelve .0 e in
       let filled = planned-filled call (plan-told s (length values₀) (length plan₀) .done .1 (tested .0)) in
@@ -411,6 +433,10 @@ module _ {state : State} {sheet : Sheet} {a : Stepped} (call : Starts state shee
       let promised = start-is call in
       promised .state-is ∙ start-number (counted sheet) (stateOf state) .1 (λ e. refused (promised .number-is ∙ e))
 
+  -- "0: done"
+  pub start-0 : (a .number ≡ 0) ↔ AllPass (startLines (counted sheet) (stateOf state))
+  start-0 = start-tells .done
+
   -- 4 to 10: the sheet's own number
   pub start-sheet : (n : ℕ) → 0 < n → n ≤ 10 → (a .number ≡ n) ↔ (sheetRefusal (counted sheet) ≡ n)
   unfolding startLines
@@ -448,6 +474,10 @@ module _ {state : State} {sheet : Sheet} {bytes : List ℕ} {a : Told} (call : S
   speed-refused refused =
       let promised = speed-is call in
       promised .speed-is ∙ speed-number (counted sheet) bytes (stateOf state) .1 (λ e. refused (promised .number-is ∙ e))
+
+  -- "0: done"
+  pub speed-0 : (a .number ≡ 0) ↔ AllPass (speedLines (counted sheet) bytes (stateOf state))
+  speed-0 = speed-tells .done
 
   -- 4 to 10: the sheet's own number
   pub speed-sheet : (n : ℕ) → 0 < n → n ≤ 10 → (a .number ≡ n) ↔ (sheetRefusal (counted sheet) ≡ n)
@@ -520,12 +550,18 @@ module _ {state : State} {sheet : Sheet} {bytes : List ℕ} {size deadline : ℕ
       let promised = advance-is call in
       promised .state-is ∙ advance-number (counted sheet) bytes (stateOf state) size deadline .1 (λ e. refused (promised .number-is ∙ e))
 
-  -- 4 to 14, and 16: "the same" as the speed call
-  pub advance-speed : {b : Told} → Speeds state sheet bytes b → (n : ℕ) → 0 < n → (n ≡ 15 → ⊥) → (n ≡ 17 → ⊥) → (n ≡ 18 → ⊥) →
-      (a .number ≡ n) ↔ (b .number ≡ n)
+  -- "0: done"
+  pub advance-0 : (a .number ≡ 0) ↔ AllPass (advanceLines (counted sheet) bytes (stateOf state) size deadline)
+  advance-0 = advance-tells .done
+
+  -- 4 to 14, and 16: "the same" as speed, whose number is speedRefusal
+  pub advance-speed : (n : ℕ) → 0 < n → (n ≡ 15 → ⊥) → (n ≡ 17 → ⊥) → (n ≡ 18 → ⊥) →
+      (a .number ≡ n) ↔ (speedRefusal (counted sheet) bytes (stateOf state) ≡ n)
   unfolding advanceLines
-  advance-speed told n h no15 no17 no18 =
-      tells-front (speedLines (counted sheet) bytes (stateOf state)) _ advance-tells (speed-tells told) n h
+  advance-speed n h no15 no17 no18 =
+      let s = counted sheet in
+      let x = stateOf state in
+      tells-front (speedLines s bytes x) _ advance-tells (speed-told s bytes x) n h
       (λ e. no15 (sym e), (λ e. no17 (sym e), (λ e. no18 (sym e), tt)))
 
   -- "15: no entry has this size and deadline"
@@ -558,7 +594,7 @@ module _ {state : State} {sheet : Sheet} {bytes : List ℕ} {size deadline : ℕ
       let s = counted sheet in
       let x = stateOf state in
       (a .number ≡ 18) ↔
-      (AllPass (linesTo18 s bytes x size deadline) × (leb (moved s x (planByte s bytes x) size deadline .energy) 4294967295 ≡ false))
+      (AllPass (linesTo18 s bytes x size deadline) × (leb (moved s x (planByte s bytes x) size deadline .energy) energyLimit ≡ false))
   unfolding advanceLines
   advance-18 =
       let s = counted sheet in
@@ -578,7 +614,7 @@ module _ {state : State} {sheet : Sheet} {bytes : List ℕ} {size deadline : ℕ
       let small =
       energy-small s (row-accepted s (length bytes) (passed .0) .0) x (passed .1) (planByte s bytes x) (byte-on-sheet s x _ (passed .2)) in
       let same = ap (λ (y : model-stepper.State). y .energy) (moved-by s x (planByte s bytes x) size deadline) in
-      omega (arith, leb-false (moved s x (planByte s bytes x) size deadline .energy) 4294967295 (told .1), small, same)
+      omega (arith, leb-false (moved s x (planByte s bytes x) size deadline .energy) energyLimit (told .1), small, same)
 
   -- "Advance: the same, then 15, 17, 18", of which 18 is never answered
   pub advance-gives : OneOf (0 ∷ 4 ∷ 5 ∷ 6 ∷ 7 ∷ 8 ∷ 9 ∷ 10 ∷ 11 ∷ 13 ∷ 14 ∷ 16 ∷ 15 ∷ 17 ∷ []) (a .number)

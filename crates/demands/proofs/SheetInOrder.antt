@@ -16,7 +16,7 @@ use Rattle.model.specs.Tests.{check, _then_, inOrder, inTurn}
 use Rattle.model.specs.declared.Job.{Job}
 use Rattle.model.specs.declared.Speed.{Speed}
 use Rattle.model.proofs.Tests.{then-then}
-use Rattle.demands.specs.Numbers.{Line, line, AllPass, FailsFirst, Tells, speedField, jobField, fieldLine, linesOfSpeed, linesOfJob, boundLines, speedTableLines, horizonLines, jobTableLines, fieldLines, linesToSpeedCount, linesWithSpeedCount, linesToSpeed, linesToEnergy, linesToHorizon, linesToJobCount, linesToJob, limitLines, nothing, sheetLines, writeLines, planLines, rowLines}
+use Rattle.demands.specs.Numbers.{Line, line, AllPass, FailsFirst, Tells, speedField, jobField, fieldLine, linesOfSpeed, linesOfJob, boundLines, speedTableLines, horizonLines, jobTableLines, fieldLines, linesToSpeedCount, linesWithSpeedCount, linesToSpeed, linesToEnergy, linesToHorizon, linesToJobCount, linesToJob, speedLine, energyLine, valueFits, limitLines, nothing, sheetLines, writeLines, planLines, rowLines}
 use Rattle.demands.proofs.InOrder.{firstOf, Each, Other, then-nothing, first-append, first-in-turn, each-append, each-in-turn, tells, none-fails, fails-at, tells-at, tells-table, tells-table-at}
 
 -- the numbers, where that of what comes before the range of number k is `ahead k`
@@ -91,7 +91,7 @@ row-first s room = rw (← sheet-then s _, then-nothing)
 
 module _ (P : ℕ → Type 0) (before : ℕ → List Line) (s : Counted) (ahead : (k : ℕ) → Each P (before k)) where
   -- a field: those of what comes before its range, and its own
-  field-numbers : (k number : ℕ) (passes : Bool) → P number → Each P (fieldLine before k number passes)
+  field-numbers : (k number : ℕ) (passes : Bool) → P number → Each P (fieldLine before k (line number passes))
   field-numbers k number passes p = each-append P (before k) _ (ahead k) (p, tt)
 
   -- D: 4
@@ -101,21 +101,21 @@ module _ (P : ℕ → Type 0) (before : ℕ → List Line) (s : Counted) (ahead 
   -- a speed: 5 and 6
   one-speed-numbers : P 5 → P 6 → (j : ℕ) → Each P (linesOfSpeed before s j)
   one-speed-numbers five six j =
-      each-append P (fieldLine before (speedField j) 5 _) _ (field-numbers _ 5 _ five) (field-numbers _ 6 _ six)
+      each-append P (fieldLine before (speedField j) (line 5 _)) _ (field-numbers _ 5 _ five) (field-numbers _ 6 _ six)
 
   -- the speeds: 5 and 6
   pub speed-numbers : P 5 → P 6 → Each P (speedTableLines before s)
   speed-numbers five six =
-      each-append P (fieldLine before 1 5 _) _ (field-numbers 1 5 _ five)
+      each-append P (fieldLine before 1 (line 5 _)) _ (field-numbers 1 5 _ five)
       (each-in-turn P (linesOfSpeed before s) (s .speedCount) (one-speed-numbers five six))
 
   -- the jobs: 8
   pub job-numbers : P 8 → Each P (jobTableLines before s)
   job-numbers eight =
-      each-append P (fieldLine before (suc (speedField (s .speedCount))) 8 _) _ (field-numbers _ 8 _ eight)
+      each-append P (fieldLine before (suc (speedField (s .speedCount))) (line 8 _)) _ (field-numbers _ 8 _ eight)
       (each-in-turn P (linesOfJob before s) (s .jobCount)
-      (λ i. each-append P (fieldLine before (jobField (s .speedCount) i) 8 _) _ (field-numbers _ 8 _ eight)
-      (each-append P (fieldLine before (suc (jobField (s .speedCount) i)) 8 _) _ (field-numbers _ 8 _ eight) (field-numbers _ 8 _ eight))))
+      (λ i. each-append P (fieldLine before (jobField (s .speedCount) i) (line 8 _)) _ (field-numbers _ 8 _ eight)
+      (each-append P (fieldLine before (suc (jobField (s .speedCount) i)) (line 8 _)) _ (field-numbers _ 8 _ eight) (field-numbers _ 8 _ eight))))
 
   -- T and the jobs: 7 and 8
   pub after-speed-numbers : P 7 → P 8 → Each P (horizonLines before s ++ jobTableLines before s)
@@ -250,7 +250,7 @@ module _ {answer : ℕ} (before : ℕ → List Line) (s : Counted) (more : List 
   fields-5 ahead later =
       count-or-entry (linesToSpeedCount before s) _ (to-speed-count-numbers (Other 5) before s ahead (λ e. omega arith))
       (fails-at-speed 5 (omega arith) (omega arith) ahead later (linesToSpeed before s) (λ j. before (speedField j))
-      (λ j. fieldLine before (suc (speedField j)) 6 (energyRight (energyAt s j))) (λ j. speedRight j (speedAt s (pred j)) (speedAt s j))
+      (λ j. fieldLine before (suc (speedField j)) (energyLine s j)) (λ j. speedRight j (speedAt s (pred j)) (speedAt s j))
       (λ j. append-assoc (before (speedField j)) _ _) (λ j. refl) (λ j. ahead _)
       (λ j. field-numbers (Other 5) before s ahead _ 6 _ (λ e. omega arith)))
 
@@ -259,12 +259,12 @@ module _ {answer : ℕ} (before : ℕ → List Line) (s : Counted) (more : List 
       (answer ≡ 6) ↔
       ((j : ℕ) × (j < s .speedCount) × AllPass (linesToEnergy before s j) × (energyRight (energyAt s j) ≡ false))
   fields-6 ahead later =
-      let speedLine : ℕ → List Line = λ j. fieldLine before (speedField j) 5 (speedRight j (speedAt s (pred j)) (speedAt s j)) in
+      let ownLine : ℕ → List Line = λ j. fieldLine before (speedField j) (speedLine s j) in
       let table =
       fails-at-speed 6 (omega arith) (omega arith) ahead later (linesToEnergy before s)
-      (λ j. speedLine j ++ before (suc (speedField j))) (λ j. []) (λ j. energyRight (energyAt s j))
+      (λ j. ownLine j ++ before (suc (speedField j))) (λ j. []) (λ j. energyRight (energyAt s j))
       (λ j. simp append-assoc) (λ j. simp append-assoc)
-      (λ j. each-append (Other 6) (speedLine j) _ (field-numbers (Other 6) before s ahead _ 5 _ (λ e. omega arith)) (ahead _)) (λ j. tt) in
+      (λ j. each-append (Other 6) (ownLine j) _ (field-numbers (Other 6) before s ahead _ 5 _ (λ e. omega arith)) (ahead _)) (λ j. tt) in
       let none =
       none-fails 6 (linesWithSpeedCount before s)
       (with-speed-count-numbers (Other 6) before s ahead (λ e. omega arith) (λ e. omega arith)) in
@@ -292,13 +292,13 @@ module _ {answer : ℕ} (before : ℕ → List Line) (s : Counted) (more : List 
 module _ {answer : ℕ} (front : List Line) (s : Counted) (told : Tells answer (front ++ limitLines s)) where
   -- "9: T times G times W to the power T exceeds 2^63-1"
   pub limits-9 : Each (Other 9) front →
-      (answer ≡ 9) ↔ (AllPass front × (leb (s .horizon * G s * W s ^ s .horizon) valueLimit ≡ false))
+      (answer ≡ 9) ↔ (AllPass front × (valueFits s ≡ false))
   limits-9 earlier = tells-at told front 9 _ _ refl (omega arith) earlier (λ e. omega arith, tt)
 
   -- "10: N above 65,535"
   pub limits-10 : Each (Other 10) front →
       (answer ≡ 10) ↔
-      (AllPass (front ++ line 9 (leb (s .horizon * G s * W s ^ s .horizon) valueLimit) ∷ []) × (leb (N s) 65535 ≡ false))
+      (AllPass (front ++ line 9 (valueFits s) ∷ []) × (leb (N s) 65535 ≡ false))
   limits-10 earlier =
       tells-at told (front ++ _ ∷ []) 10 (leb (N s) 65535) [] (sym (append-assoc front _ _)) (omega arith)
       (each-append (Other 10) front _ earlier (λ e. omega arith, tt)) tt

@@ -14,7 +14,7 @@ use Rattle.model.specs.Plan.{IsValueAt, valuesNeeded, planNeeded}
 use Rattle.model.specs.Queue.{emptyQueue, bearable}
 use Rattle.model.specs.Reading.{Answer, value, refused, field}
 use Rattle.model.specs.Refusal.{boundRight, speedCountRight, speedRight, energyRight, horizonRight, jobCountRight, weightRight, sizeRight, deadlineRight, valueLimit, N}
-use Rattle.model.specs.Stepper.{State, queueOf, queueRight, stateRight, planByte, byteRight, isEntry, moved}
+use Rattle.model.specs.Stepper.{State, queueOf, queueRight, stateRight, planByte, byteRight, isEntry, moved, energyLimit}
 use Rattle.model.specs.Tests.{inTurn, listed}
 use Rattle.model.specs.declared.Job.{Job}
 use Rattle.model.specs.declared.Speed.{Speed}
@@ -60,40 +60,62 @@ abbrev pub jobField : ℕ → ℕ → ℕ
 jobField speedCount i = 4 + 2 * speedCount + 3 * i
 
 -- "then its own range is tested before the next field": what comes `before` the range of number k, and the line of its range
-abbrev pub fieldLine : (before : ℕ → List Line) → ℕ → ℕ → Bool → List Line
-fieldLine before k number passes = before k ++ line number passes ∷ []
+abbrev pub fieldLine : (before : ℕ → List Line) → ℕ → Line → List Line
+fieldLine before k own = before k ++ own ∷ []
 
--- "for each, speed then energy": "5: .. first not 0, not strictly rising, or one above 8", "6: an energy above 65,535"
+-- the line of each field's range
+
+-- "5: count of speeds out of range .."
+abbrev pub speedCountLine : Counted → Line
+speedCountLine s = line 5 (speedCountRight (s .speedCount))
+
+-- "5: .. first not 0, not strictly rising, or one above 8": the speed at place j
+abbrev pub speedLine : Counted → ℕ → Line
+speedLine s j = line 5 (speedRight j (speedAt s (pred j)) (speedAt s j))
+
+-- "6: an energy above 65,535"
+abbrev pub energyLine : Counted → ℕ → Line
+energyLine s j = line 6 (energyRight (energyAt s j))
+
+-- "7: T out of range"
+abbrev pub horizonLine : Counted → Line
+horizonLine s = line 7 (horizonRight (s .horizon))
+
+-- "8: a job count .. out of range"
+abbrev pub jobCountLine : Counted → Line
+jobCountLine s = line 8 (jobCountRight (s .jobCount))
+
+-- the lines of the fields, each after what comes before its range
+
+-- "for each, speed then energy"
 abbrev pub linesOfSpeed : (before : ℕ → List Line) → Counted → ℕ → List Line
 linesOfSpeed before s j =
-    fieldLine before (speedField j) 5 (speedRight j (speedAt s (pred j)) (speedAt s j)) ++
-    fieldLine before (suc (speedField j)) 6 (energyRight (energyAt s j))
+    fieldLine before (speedField j) (speedLine s j) ++ fieldLine before (suc (speedField j)) (energyLine s j)
 
 -- "for each, weight, size, deadline": "8: a job count, weight, size or deadline out of range"
 abbrev pub linesOfJob : (before : ℕ → List Line) → Counted → ℕ → List Line
 linesOfJob before s i =
     let k = jobField (s .speedCount) i in
-    fieldLine before k 8 (weightRight (weightAt s i)) ++
-    (fieldLine before (suc k) 8 (sizeRight (sizeAt s i)) ++
-    fieldLine before (suc (suc k)) 8 (deadlineRight (s .bound) (deadlineAt s i)))
+    fieldLine before k (line 8 (weightRight (weightAt s i))) ++
+    (fieldLine before (suc k) (line 8 (sizeRight (sizeAt s i))) ++
+    fieldLine before (suc (suc k)) (line 8 (deadlineRight (s .bound) (deadlineAt s i))))
 
 -- "4: D out of range"
 abbrev pub boundLines : (before : ℕ → List Line) → Counted → List Line
-boundLines before s = fieldLine before 0 4 (boundRight (s .bound))
+boundLines before s = fieldLine before 0 (line 4 (boundRight (s .bound)))
 
--- "5: count of speeds out of range", and then each speed
+-- the count of speeds, and then each speed
 abbrev pub speedTableLines : (before : ℕ → List Line) → Counted → List Line
-speedTableLines before s =
-    fieldLine before 1 5 (speedCountRight (s .speedCount)) ++ inTurn (linesOfSpeed before s) (s .speedCount)
+speedTableLines before s = fieldLine before 1 (speedCountLine s) ++ inTurn (linesOfSpeed before s) (s .speedCount)
 
--- "7: T out of range"
+-- T
 abbrev pub horizonLines : (before : ℕ → List Line) → Counted → List Line
-horizonLines before s = fieldLine before (speedField (s .speedCount)) 7 (horizonRight (s .horizon))
+horizonLines before s = fieldLine before (speedField (s .speedCount)) (horizonLine s)
 
--- "8: a job count .. out of range", and then each job
+-- the count of jobs, and then each job
 abbrev pub jobTableLines : (before : ℕ → List Line) → Counted → List Line
 jobTableLines before s =
-    fieldLine before (suc (speedField (s .speedCount))) 8 (jobCountRight (s .jobCount)) ++ inTurn (linesOfJob before s) (s .jobCount)
+    fieldLine before (suc (speedField (s .speedCount))) (jobCountLine s) ++ inTurn (linesOfJob before s) (s .jobCount)
 
 -- 4 to 8 in field order
 abbrev pub fieldLines : (before : ℕ → List Line) → Counted → List Line
@@ -107,7 +129,7 @@ linesToSpeedCount before s = boundLines before s ++ before 1
 
 -- and with its line
 abbrev pub linesWithSpeedCount : (before : ℕ → List Line) → Counted → List Line
-linesWithSpeedCount before s = linesToSpeedCount before s ++ line 5 (speedCountRight (s .speedCount)) ∷ []
+linesWithSpeedCount before s = linesToSpeedCount before s ++ speedCountLine s ∷ []
 
 -- before the speed at place j
 abbrev pub linesToSpeed : (before : ℕ → List Line) → Counted → ℕ → List Line
@@ -115,8 +137,7 @@ linesToSpeed before s j = linesWithSpeedCount before s ++ inTurn (linesOfSpeed b
 
 -- before its energy
 abbrev pub linesToEnergy : (before : ℕ → List Line) → Counted → ℕ → List Line
-linesToEnergy before s j =
-    linesToSpeed before s j ++ line 5 (speedRight j (speedAt s (pred j)) (speedAt s j)) ∷ [] ++ before (suc (speedField j))
+linesToEnergy before s j = linesToSpeed before s j ++ speedLine s j ∷ [] ++ before (suc (speedField j))
 
 -- before T, which stands where one speed more would
 abbrev pub linesToHorizon : (before : ℕ → List Line) → Counted → List Line
@@ -124,16 +145,19 @@ linesToHorizon before s = linesToSpeed before s (s .speedCount)
 
 -- before the count of jobs
 abbrev pub linesToJobCount : (before : ℕ → List Line) → Counted → List Line
-linesToJobCount before s =
-    linesToHorizon before s ++ line 7 (horizonRight (s .horizon)) ∷ [] ++ before (suc (speedField (s .speedCount)))
+linesToJobCount before s = linesToHorizon before s ++ horizonLine s ∷ [] ++ before (suc (speedField (s .speedCount)))
 
 -- before all the lines of the job at place i
 abbrev pub linesToJob : (before : ℕ → List Line) → Counted → ℕ → List Line
-linesToJob before s i = linesToJobCount before s ++ line 8 (jobCountRight (s .jobCount)) ∷ [] ++ inTurn (linesOfJob before s) i
+linesToJob before s i = linesToJobCount before s ++ jobCountLine s ∷ [] ++ inTurn (linesOfJob before s) i
 
--- "9: T times G times W to the power T exceeds 2^63-1; G is the greatest energy, or 1 if that is 0", "10: N above 65,535"
+-- "9: T times G times W to the power T exceeds 2^63-1; G is the greatest energy, or 1 if that is 0"
+abbrev pub valueFits : Counted → Bool
+valueFits s = leb (s .horizon * G s * W s ^ s .horizon) valueLimit
+
+-- "9, 10": "10: N above 65,535"
 abbrev pub limitLines : Counted → List Line
-limitLines s = line 9 (leb (s .horizon * G s * W s ^ s .horizon) valueLimit) ∷ line 10 (leb (N s) 65535) ∷ []
+limitLines s = line 9 (valueFits s) ∷ line 10 (leb (N s) 65535) ∷ []
 
 -- a sheet in memory: nothing is read before a field's range
 abbrev pub nothing : ℕ → List Line
@@ -167,39 +191,57 @@ pub record PlanTells (s : Counted) (valuesRoom planRoom number : ℕ) : Type 0 w
 unfoldable pub startLines : Counted → State → List Line
 startLines s x = sheetLines s ++ line 13 (queueRight s x) ∷ []
 
--- "Speed: 4 to 10, 11, 13, 14, 16": 13 whole, "14: the state's slot is T", "16: the plan byte is no sheet speed, or is below w(1)"
-unfoldable pub speedLines : Counted → List ℕ → State → List Line
-speedLines s plan x =
-    rowLines s (length plan) ++
-    line 13 (stateRight s x) ∷
-    line 14 (not (eqb (x .slot) (s .horizon))) ∷
-    line 16 (byteRight s x (planByte s plan x)) ∷ []
+-- "13: the queue falls or is not bearable, an unused position is not zero, the slot is above T, or the energy is above the slot number
+-- times the greatest energy"
+abbrev pub stateLine : Counted → State → Line
+stateLine s x = line 13 (stateRight s x)
 
--- "Advance: the same, then 15, 17, 18": "15: no entry has this size and deadline", "17: the next queue would not be bearable", "18: the new
--- energy total would pass 4,294,967,295"
+-- "14: the state's slot is T"
+abbrev pub slotLine : Counted → State → Line
+slotLine s x = line 14 (not (eqb (x .slot) (s .horizon)))
+
+-- "16: the plan byte is no sheet speed, or is below w(1)"
+abbrev pub byteLine : Counted → List ℕ → State → Line
+byteLine s plan x = line 16 (byteRight s x (planByte s plan x))
+
+-- "Speed: 4 to 10, 11, 13, 14, 16"
+unfoldable pub speedLines : Counted → List ℕ → State → List Line
+speedLines s plan x = rowLines s (length plan) ++ stateLine s x ∷ slotLine s x ∷ byteLine s plan x ∷ []
+
+-- before 14, and before 16
+
+abbrev pub linesTo14 : Counted → List ℕ → State → List Line
+linesTo14 s plan x = rowLines s (length plan) ++ stateLine s x ∷ []
+
+abbrev pub linesTo16 : Counted → List ℕ → State → List Line
+linesTo16 s plan x = rowLines s (length plan) ++ stateLine s x ∷ slotLine s x ∷ []
+
+-- "15: no entry has this size and deadline"
+abbrev pub entryLine : Counted → (size deadline : ℕ) → Line
+entryLine s size deadline = line 15 (isEntry s size deadline)
+
+-- "17: the next queue would not be bearable"
+abbrev pub nextQueueLine : Counted → (next : State) → Line
+nextQueueLine s next = line 17 (bearable (M s) (queueOf s next))
+
+-- "18: the new energy total would pass 4,294,967,295"
+abbrev pub nextEnergyLine : (next : State) → Line
+nextEnergyLine next = line 18 (leb (next .energy) energyLimit)
+
+-- "Advance: the same, then 15, 17, 18"
 unfoldable pub advanceLines : Counted → List ℕ → State → (size deadline : ℕ) → List Line
 advanceLines s plan x size deadline =
     let next = moved s x (planByte s plan x) size deadline in
-    speedLines s plan x ++
-    line 15 (isEntry s size deadline) ∷
-    line 17 (bearable (M s) (queueOf s next)) ∷
-    line 18 (leb (next .energy) 4294967295) ∷ []
+    speedLines s plan x ++ entryLine s size deadline ∷ nextQueueLine s next ∷ nextEnergyLine next ∷ []
 
--- the lines before 14, before 16, before 17 and before 18
-
-abbrev pub linesTo14 : Counted → List ℕ → State → List Line
-linesTo14 s plan x = rowLines s (length plan) ++ line 13 (stateRight s x) ∷ []
-
-abbrev pub linesTo16 : Counted → List ℕ → State → List Line
-linesTo16 s plan x = rowLines s (length plan) ++ line 13 (stateRight s x) ∷ line 14 (not (eqb (x .slot) (s .horizon))) ∷ []
+-- before 17, and before 18
 
 abbrev pub linesTo17 : Counted → List ℕ → State → (size deadline : ℕ) → List Line
-linesTo17 s plan x size deadline = speedLines s plan x ++ line 15 (isEntry s size deadline) ∷ []
+linesTo17 s plan x size deadline = speedLines s plan x ++ entryLine s size deadline ∷ []
 
 abbrev pub linesTo18 : Counted → List ℕ → State → (size deadline : ℕ) → List Line
 linesTo18 s plan x size deadline =
-    let next = moved s x (planByte s plan x) size deadline in
-    speedLines s plan x ++ line 15 (isEntry s size deadline) ∷ line 17 (bearable (M s) (queueOf s next)) ∷ []
+    speedLines s plan x ++ entryLine s size deadline ∷ nextQueueLine s (moved s x (planByte s plan x) size deadline) ∷ []
 
 -- Reading. "At each field a read answers a value with its next place, or a refusal"
 
@@ -280,14 +322,14 @@ shortest bytes at =
 abbrev pub reading : List ℕ → ℕ → List Line
 reading bytes k = line 1 (whole bytes (placeOfNumber bytes k)) ∷ line 2 (shortest bytes (placeOfNumber bytes k)) ∷ []
 
--- "Reading goes field by field. .. After the last field: 3, 9, 10"; "3: bytes follow the last field"
-unfoldable pub readLines : List ℕ → List Line
-readLines bytes =
-    let s = sheetIn bytes in
-    fieldLines (reading bytes) s ++
-    line 3 (leb (length bytes) (endOf bytes)) ∷
-    limitLines s
+-- "3: bytes follow the last field"
+abbrev pub endLine : List ℕ → Line
+endLine bytes = line 3 (leb (length bytes) (endOf bytes))
 
--- the lines of a read before 9
+-- "Reading goes field by field. .. After the last field: 3, 9, 10"
+unfoldable pub readLines : List ℕ → List Line
+readLines bytes = fieldLines (reading bytes) (sheetIn bytes) ++ endLine bytes ∷ limitLines (sheetIn bytes)
+
+-- before 9
 abbrev pub linesTo9 : List ℕ → List Line
-linesTo9 bytes = fieldLines (reading bytes) (sheetIn bytes) ++ line 3 (leb (length bytes) (endOf bytes)) ∷ []
+linesTo9 bytes = fieldLines (reading bytes) (sheetIn bytes) ++ endLine bytes ∷ []
