@@ -2,7 +2,7 @@
 -- number n fails and every earlier one passes (the tests in order are the lists of lines of specs/Numbers.antt); and what a refused call
 -- answers and leaves. `Tells` says it for every n at once; below it the numbers are written out one by one, and which ones a
 -- call can give (`OneOf`).
-use Prim.Native.Nat.{ℕ, zero, suc, pred, _+_, _*_, _-_, _^_, _≤_, _<_}
+use Prim.Native.Nat.{ℕ, zero, suc, pred, _+_, _-_, _≤_, _<_}
 use mathlib.Core.Path.{_≡_, refl, sym, ap, _∙_, subst}
 use mathlib.Core.Bool.{Bool, true, false, _&&_, not}
 use mathlib.Core.List.{List, [], _∷_, _++_, append-assoc}
@@ -15,11 +15,11 @@ use lib.Dec.{leb, ltb, eqb}
 use lib.ListN.{length}
 use Rattle.process.proofs.Definite.{value-unique}
 use Rattle.model.specs.Bytes.{sheetBytes, writeRefusal, write}
-use Rattle.model.specs.Counted.{Counted, counted, inMemory, speedAt, energyAt, weightAt, zeroSheet, W, M, G}
+use Rattle.model.specs.Counted.{Counted, counted, inMemory, speedAt, energyAt, weightAt, zeroSheet, M}
 use Rattle.model.specs.Plan.{processOf, IsValueAt, valueIn, valuesNeeded, planNeeded, planRefusal, number12, Filled, LeavesBy, rowRefusal}
 use Rattle.model.specs.Plan as model-plan
 use Rattle.model.specs.Queue.{emptyQueue, bearable}
-use Rattle.model.specs.Refusal.{boundRight, speedCountRight, speedRight, energyRight, horizonRight, jobCountRight, valueLimit, sheetRefusal, N}
+use Rattle.model.specs.Refusal.{boundRight, speedCountRight, speedRight, energyRight, horizonRight, jobCountRight, sheetRefusal, N}
 use Rattle.model.specs.Tests.{everywhere}
 use Rattle.model.specs.declared.Sheet.{Sheet}
 use Rattle.model.proofs.Rooms.{row-none, row-past, row-accepted}
@@ -36,7 +36,7 @@ use Rattle.stepper.specs.declared.state.State.{State}
 use Rattle.stepper.specs.declared.state.Stepped.{Stepped}
 use Rattle.stepper.specs.declared.state.Told.{Told}
 use Rattle.demands.specs.Calls.{Reads, Writes, Plans, Rows, Starts, Speeds, Advances}
-use Rattle.demands.specs.Numbers.{Line, line, AllPass, FailsFirst, Tells, PlanTells, OneOf, linesOfJob, fieldLines, linesToSpeedCount, linesToSpeed, linesToEnergy, linesToHorizon, linesToJobCount, linesToJob, valueFits, limitLines, nothing, sheetLines, writeLines, planLines, rowLines, startLines, speedLines, advanceLines, linesTo9, linesTo14, linesTo16, linesTo17, linesTo18, sheetIn, endOf, endLine, reading, readLines}
+use Rattle.demands.specs.Numbers.{line, AllPass, FailsFirst, Tells, PlanTells, OneOf, linesOfJob, fieldLines, linesToSpeedCount, linesToSpeed, linesToEnergy, linesToHorizon, linesToJobCount, linesToJob, valueFits, limitLines, nothing, sheetLines, writeLines, planLines, rowLines, startLines, speedLines, advanceLines, linesTo9, linesTo14, linesTo16, linesTo17, linesTo18, sheetIn, endOf, endLine, reading, readLines}
 use Rattle.demands.proofs.Demand2.{planned-filled}
 use Rattle.demands.proofs.Determined.{answered, read-is, write-is, plan-is, row-is, start-is, speed-is, advance-is}
 use Rattle.demands.proofs.InOrder.{Each, Other, all-front, each-append, all-or-fails, fails-at, tells-at, fails-front, tells-front, tells-so, one-of, one-of-range}

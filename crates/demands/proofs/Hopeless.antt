@@ -1,14 +1,13 @@
 -- What number 12 means: where the empty queue has no value at slot 0, no queue has one. So after a plan that answers 12 every start is refused
 -- a speed at slot 0; rows of later slots may still hold speeds.
-use Prim.Native.Nat.{ℕ, zero-le}
+use Prim.Native.Nat.{ℕ}
 use mathlib.Core.Path.{_≡_, refl, sym, _∙_}
 use mathlib.Core.List.{List}
 use mathlib.Core.Logic.{inr}
-use mathlib.Core.Option.{none, some}
+use mathlib.Core.Option.{some}
 use native.Mathlib.Nat.{le-refl}
 use native.Mathlib.Omega.{arith}
 use lib.ListN.{length}
-use Rattle.process.proofs.Definite.{value-unique}
 use Rattle.model.specs.Counted.{Counted, counted}
 use Rattle.model.specs.Plan.{IsValueAt}
 use Rattle.model.specs.Queue.{Queue, emptyQueue}

@@ -27,11 +27,6 @@ Each P (x ∷ l) = P (x .number) × Each P l
 abbrev pub Other : ℕ → ℕ → Type 0
 Other n m = m ≡ n → ⊥
 
--- nothing comes after
-pub then-nothing : (a : ℕ) → a then 0 ≡ a
-then-nothing zero = refl
-then-nothing (suc a) = refl
-
 -- the first that fails of lines and then others
 pub first-append : (l m : List Line) → firstOf (l ++ m) ≡ firstOf l then firstOf m
 first-append [] m = refl

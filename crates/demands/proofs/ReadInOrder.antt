@@ -15,10 +15,10 @@ use Rattle.model.specs.Refusal.{boundRight, speedCountRight, speedRight, energy
 use Rattle.model.specs.Tests.{check, _then_, inOrder, listed}
 use Rattle.model.specs.declared.Job.{Job}
 use Rattle.model.specs.declared.Speed.{Speed}
-use Rattle.model.proofs.Readers.{Positive, number-positive, tested, headed}
-use Rattle.model.proofs.Tests.{length-listed, getD-listed, then-then}
+use Rattle.model.proofs.Readers.{Positive, number-positive, tested, headed, shift}
+use Rattle.model.proofs.Tests.{length-listed, getD-listed, then-then, then-nothing, in-order-front, in-order-same}
 use Rattle.demands.specs.Numbers.{line, Tells, speedField, jobField, fieldLines, limitLines, valueOf, nextOf, placeOfNumber, fieldOf, speedIn, jobIn, sheetIn, endOf, stands, isLast, whole, shortest, reading, readLines}
-use Rattle.demands.proofs.InOrder.{firstOf, then-nothing, first-append, each-append, tells}
+use Rattle.demands.proofs.InOrder.{firstOf, first-append, each-append, tells}
 use Rattle.demands.proofs.SheetInOrder.{numberOfSpeed, numberOfJob, numberOfFields, first-of-fields, first-of-limits, fields-numbers}
 
 -- one number
@@ -140,26 +140,6 @@ last-gives : {B : Type 0} (bytes : List ℕ) (k : ℕ) (right : ℕ → Bool) (n
 last-gives bytes k right number entry =
     simp then-nothing at
     (tested-gives bytes k right number (λ x. done (entry x)) (done-gives (entry (fieldOf bytes k)) bytes (placeOfNumber bytes (suc k))))
-
--- tests of places in order: the first place, and then the others
-
-in-order-front : (number : ℕ → ℕ) (n : ℕ) → inOrder number (suc n) ≡ number 0 then inOrder (λ i. number (suc i)) n
-unfolding inOrder
-in-order-front number zero = sym (then-nothing (number 0))
-in-order-front number (suc n) =
-    ap (λ (k : ℕ). k then number (suc n)) (in-order-front number n) ∙ then-then (number 0) _ _
-
--- tests that agree at each place agree in order
-in-order-same : (f g : ℕ → ℕ) (n : ℕ) → ((i : ℕ) → i < n → f i ≡ g i) → inOrder f n ≡ inOrder g n
-unfolding inOrder
-in-order-same f g zero same = refl
-in-order-same f g (suc n) same =
-    let below : inOrder f n ≡ inOrder g n = in-order-same f g n (λ i h. same i (omega arith)) in
-    rw (below, same n (le-refl (suc n)))
-
--- the next place, counted from j or from the place after it
-shift : (j i : ℕ) → j + suc i ≡ suc j + i
-shift j i = omega arith
 
 -- the entry before the one at place j
 abbrev previous : {A : Type 0} → A → (ℕ → A) → ℕ → A

@@ -1,6 +1,6 @@
 -- The lines of a sheet's fields and limits (specs/Numbers.antt) against the model's `check .. then ..`: a sheet in memory, and the calls
 -- that test it, refuse with the number of the first line that fails.
-use Prim.Native.Nat.{ℕ, suc, pred, _*_, _^_, _≤_, _<_}
+use Prim.Native.Nat.{ℕ, suc, pred, _≤_, _<_}
 use mathlib.Core.Path.{_≡_, refl, sym, ap, _∙_}
 use mathlib.Core.Bool.{Bool, false}
 use mathlib.Core.List.{List, [], _∷_, _++_, append-assoc}
@@ -9,17 +9,18 @@ use native.Mathlib.Omega.{arith}
 use lib.Dec.{leb}
 use lib.ListN.{getD}
 use Rattle.model.specs.Bytes.{writeRefusal}
-use Rattle.model.specs.Counted.{Counted, zeroSpeed, zeroJob, speedAt, energyAt, W, G}
+use Rattle.model.specs.Counted.{Counted, zeroSpeed, zeroJob, speedAt, energyAt}
 use Rattle.model.specs.Plan.{planRefusal, rowRefusal}
-use Rattle.model.specs.Refusal.{boundRight, speedCountRight, speedRight, energyRight, horizonRight, jobCountRight, weightRight, sizeRight, deadlineRight, speedsRefusal, jobsRefusal, fieldsRefusal, refusal9, valueLimit, limitsRefusal, refusalGiven, sheetRefusal, N}
+use Rattle.model.specs.Refusal.{boundRight, speedCountRight, speedRight, energyRight, horizonRight, jobCountRight, weightRight, sizeRight, deadlineRight, speedsRefusal, jobsRefusal, fieldsRefusal, refusal9, limitsRefusal, refusalGiven, sheetRefusal, N}
 use Rattle.model.specs.Tests.{check, _then_, inOrder, inTurn}
 use Rattle.model.specs.declared.Job.{Job}
 use Rattle.model.specs.declared.Speed.{Speed}
-use Rattle.model.proofs.Tests.{then-then}
+use Rattle.model.proofs.Tests.{then-then, then-nothing}
 use Rattle.demands.specs.Numbers.{Line, line, AllPass, FailsFirst, Tells, speedField, jobField, fieldLine, linesOfSpeed, linesOfJob, boundLines, speedTableLines, horizonLines, jobTableLines, fieldLines, linesToSpeedCount, linesWithSpeedCount, linesToSpeed, linesToEnergy, linesToHorizon, linesToJobCount, linesToJob, speedLine, energyLine, valueFits, limitLines, nothing, sheetLines, writeLines, planLines, rowLines}
-use Rattle.demands.proofs.InOrder.{firstOf, Each, Other, then-nothing, first-append, first-in-turn, each-append, each-in-turn, tells, none-fails, fails-at, tells-at, tells-table, tells-table-at}
+use Rattle.demands.proofs.InOrder.{firstOf, Each, Other, first-append, first-in-turn, each-append, each-in-turn, tells, none-fails, fails-at, tells-at, tells-table, tells-table-at}
 
--- the numbers, where that of what comes before the range of number k is `ahead k`
+-- the numbers as the model's tests in order, where that of what comes before the range of number k is `ahead k`: between the lines and
+-- both the model's refusals of a sheet and its readers, which go by one speed and one job at a time
 
 -- of a speed at place j, after the speed `previous`
 abbrev pub numberOfSpeed : (ahead : ℕ → ℕ) → ℕ → Speed → Speed → ℕ

@@ -8,9 +8,9 @@ use borrow.Author.Tests.{ne-eqb}
 use lib.ListN.{length}
 use Rattle.model.specs.Counted.{Counted}
 use Rattle.model.specs.Stepper.{State, zeroState, startRefusal, start, speedRefusal, speed, advanceRefusal, advance}
-use Rattle.model.proofs.Tests.{then-then}
+use Rattle.model.proofs.Tests.{then-then, then-nothing}
 use Rattle.demands.specs.Numbers.{Tells, rowLines, startLines, speedLines, advanceLines}
-use Rattle.demands.proofs.InOrder.{firstOf, Each, Other, then-nothing, first-append, each-append, tells}
+use Rattle.demands.proofs.InOrder.{firstOf, Each, Other, first-append, each-append, tells}
 use Rattle.demands.proofs.SheetInOrder.{sheet-then, sheet-first, sheet-then-numbers, row-numbers}
 
 -- the number of each call is that of the first line that fails

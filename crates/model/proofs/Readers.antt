@@ -251,7 +251,7 @@ in-turn-front f zero = sym (append-nil (f 0))
 in-turn-front f (suc n) = ap (λ l. l ++ f (suc n)) (in-turn-front f n) ∙ append-assoc (f 0) _ _
 
 -- the next place, counted from j or from the place after it
-shift : (j i : ℕ) → j + suc i ≡ suc j + i
+pub shift : (j i : ℕ) → j + suc i ≡ suc j + i
 shift j i = omega arith
 
 -- a table's fields: its count, and then those of its entries

@@ -1,6 +1,6 @@
 -- Laws of the tests and of the small loops over places (specs/Tests.antt).
 use Prim.Native.Nat.{ℕ, zero, suc, max, _+_, _≤_, _<_}
-use mathlib.Core.Path.{_≡_, refl, sym, ap, subst}
+use mathlib.Core.Path.{_≡_, refl, sym, ap, subst, _∙_}
 use mathlib.Core.Bool.{Bool, true, false, cond, _&&_, _||_}
 use mathlib.Core.Logic.{⊎-elim, _⊎_, inl, inr}
 use native.Mathlib.Nat.{le-refl, le-trans, le-max-left, le-max-right, max-le, not-suc-le-zero, eq-or-lt-of-le, le-of-suc-le-suc, suc-ne-zero, lt-irrefl, not-le-of-lt, lt-of-le-of-lt}
@@ -85,6 +85,11 @@ check-false passes number e = ap (λ (b : Bool). check b number) e
 pub then-on : (a later : ℕ) → a ≡ 0 → a then later ≡ later
 then-on a later e = ap (λ (n : ℕ). n then later) e
 
+-- a test that none comes after
+pub then-nothing : (a : ℕ) → a then 0 ≡ a
+then-nothing zero = refl
+then-nothing (suc a) = refl
+
 -- tests in order may be taken together from the first on
 pub then-then : (a b later : ℕ) → (a then b) then later ≡ a then b then later
 then-then zero b later = refl
@@ -114,6 +119,20 @@ unfolding inOrder
 in-order-all number zero all = refl
 in-order-all number (suc n) all =
     then-both (inOrder number n) (number n) (in-order-all number n (λ i h. all i (omega arith))) (all n (le-refl (suc n)))
+
+-- the first place's test, and then the others'
+pub in-order-front : (number : ℕ → ℕ) (n : ℕ) → inOrder number (suc n) ≡ number 0 then inOrder (λ i. number (suc i)) n
+unfolding inOrder
+in-order-front number zero = sym (then-nothing (number 0))
+in-order-front number (suc n) = ap (λ (k : ℕ). k then number (suc n)) (in-order-front number n) ∙ then-then (number 0) _ _
+
+-- tests that agree at each place agree in order
+pub in-order-same : (f g : ℕ → ℕ) (n : ℕ) → ((i : ℕ) → i < n → f i ≡ g i) → inOrder f n ≡ inOrder g n
+unfolding inOrder
+in-order-same f g zero same = refl
+in-order-same f g (suc n) same =
+    let below : inOrder f n ≡ inOrder g n = in-order-same f g n (λ i h. same i (omega arith)) in
+    rw (below, same n (le-refl (suc n)))
 
 -- what a loop over the places knows: all passed so far and one more
 pub in-order-more : (number : ℕ → ℕ) (j : ℕ) → inOrder number j ≡ 0 → number j ≡ 0 → inOrder number (j + 1) ≡ 0

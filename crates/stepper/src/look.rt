@@ -26,6 +26,7 @@ pub fn plan_byte(counts: &[u32; 2352], sheet: Sheet, plan: &[u8], slot: u32, que
     let greatest = greatest_of(sheet);
     let queues = queues_of(counts, sheet);
     let here = number(counts, greatest.speed, sheet.bound as usize, queue);
+    // where the slot's row begins, as the row call hands it out
     let row = place(queues, slot, 0);
     plan[row + here] as u32
 }
