@@ -1,4 +1,4 @@
-// Where a slot and a queue stand in a plan, and the test that every call which is lent a plan makes first: 4 to 10, then 11.
+// Where a slot and a queue stand in a plan, and the test that the row call and the stepper make first: 4 to 10, then 11.
 use crate::limits::queues_of;
 use crate::refusal::sheet_refusal;
 use model::Sheet;
