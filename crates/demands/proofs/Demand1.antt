@@ -29,7 +29,7 @@ use Rattle.codec.specs.declared.writer.Written.{Written}
 use Rattle.planner.specs.declared.calls.PlanAnswer.{PlanAnswer}
 use Rattle.model.specs.Stepper as model-stepper
 use Rattle.model.specs.Stepper.{queueOf, queueRight, stateRight, planByte, byteRight, speedRefusal, isEntry, moved, energyLimit, zeroState}
-use Rattle.model.proofs.Stepper.{speed-accepted, byte-on-sheet, moved-by}
+use Rattle.model.proofs.Stepper.{start-number, speed-number, advance-number, speed-accepted, byte-on-sheet, moved-by}
 use Rattle.model.proofs.Stepping.{energy-small}
 use Rattle.stepper.specs.Calls.{stateOf}
 use Rattle.stepper.specs.declared.state.State.{State}
@@ -43,7 +43,7 @@ use Rattle.demands.proofs.InOrder.{Each, Other, all-front, each-append,
 use Rattle.demands.proofs.PlanInOrder.{by-value, by-line, plan-so, row-there}
 use Rattle.demands.proofs.ReadInOrder.{read-told, read-zero, read-accepted}
 use Rattle.demands.proofs.SheetInOrder.{fields-4, fields-5, fields-6, fields-7, fields-8, limits-9, limits-10, fields-numbers, room-numbers, sheet-without, sheet-told, write-told, plan-told, row-told, row-numbers}
-use Rattle.demands.proofs.StepperInOrder.{start-numbers, speed-lines-numbers, advance-numbers, speed-without, start-told, speed-told, advance-told, start-number, speed-number, advance-number}
+use Rattle.demands.proofs.StepperInOrder.{start-numbers, speed-lines-numbers, advance-numbers, speed-without, start-told, speed-told, advance-told}
 
 -- a sheet in memory: "A sheet in memory is tested 4 to 10 in that field order by every call"
 

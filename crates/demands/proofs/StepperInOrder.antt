@@ -1,13 +1,12 @@
 -- Demand 1 for the stepper, of the model's definitions (specs of the model, Stepper.antt): start, speed and advance refuse with the number
--- of the first of their lines that fails (specs/Numbers.antt), and what they answer when they refuse.
+-- of the first of their lines that fails (specs/Numbers.antt).
 use Prim.Native.Nat.{ℕ, _≤_, _<_}
-use mathlib.Core.Path.{_≡_, refl, sym}
+use mathlib.Core.Path.{_≡_, sym}
 use mathlib.Core.List.{List}
 use native.Mathlib.Omega.{arith}
-use borrow.Author.Tests.{ne-eqb}
 use lib.ListN.{length}
 use Rattle.model.specs.Counted.{Counted}
-use Rattle.model.specs.Stepper.{State, zeroState, startRefusal, start, speedRefusal, speed, advanceRefusal, advance}
+use Rattle.model.specs.Stepper.{State, startRefusal, speedRefusal, advanceRefusal}
 use Rattle.model.proofs.Tests.{then-then, then-nothing}
 use Rattle.demands.specs.Numbers.{Tells, rowLines, startLines, speedLines, advanceLines}
 use Rattle.demands.proofs.InOrder.{firstOf, Each, Other, first-append, each-append, tells}
@@ -82,24 +81,3 @@ advance-told s plan x size deadline =
     (advance-numbers (λ m. 0 < m) s plan x size deadline
     (speed-numbers (λ m. 0 < m) s plan x (λ m h k. omega arith) (omega arith)) (omega arith) (omega arith) (omega arith))
     (advance-first s plan x size deadline)
-
--- what they answer when they refuse
-
--- the number of a start is that of its refusal; "A refused start gives an all-zero state"
-pub start-number : (s : Counted) (x : State) →
-    (start s x .number ≡ startRefusal s x) × ((start s x .number ≡ 0 → ⊥) → start s x .state ≡ zeroState)
-unfolding start
-start-number s x = (refl, λ some. rw (ne-eqb (startRefusal s x) 0 some))
-
--- the number of a speed call is that of its refusal; "A refused speed is 0"
-pub speed-number : (s : Counted) (plan : List ℕ) (x : State) →
-    (speed s plan x .number ≡ speedRefusal s plan x) × ((speed s plan x .number ≡ 0 → ⊥) → speed s plan x .speed ≡ 0)
-unfolding speed
-speed-number s plan x = (refl, λ some. rw (ne-eqb (speedRefusal s plan x) 0 some))
-
--- the number of an advance is that of its refusal; "a refused advance hands back the state it got"
-pub advance-number : (s : Counted) (plan : List ℕ) (x : State) (size deadline : ℕ) →
-    (advance s plan x size deadline .number ≡ advanceRefusal s plan x size deadline) ×
-    ((advance s plan x size deadline .number ≡ 0 → ⊥) → advance s plan x size deadline .state ≡ x)
-unfolding advance
-advance-number s plan x size deadline = (refl, λ some. rw (ne-eqb (advanceRefusal s plan x size deadline) 0 some))

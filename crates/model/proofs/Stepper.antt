@@ -5,15 +5,15 @@ use mathlib.Core.Path.{_≡_, refl, sym, ap, _∙_}
 use mathlib.Core.Bool.{Bool, true, false, cond, not, _&&_}
 use mathlib.Core.List.{List}
 use borrow.Author.Tests.{le-leb, lt-leb, eq-eqb, ne-eqb}
-use lib.Dec.{T, leb, eqb, leb→le}
+use lib.Dec.{T, leb, eqb, leb→le, eqb-refl}
 use lib.ListN.{length, getD}
-use Rattle.model.specs.Counted.{Counted, onSheet, energyOf, greatestEnergy}
+use Rattle.model.specs.Counted.{Counted, sizeAt, deadlineAt, onSheet, energyOf, greatestEnergy}
 use Rattle.model.specs.Plan.{placeOfQueue, rowRefusal}
 use Rattle.model.specs.Queue.{total, placesOf, oneSlot}
 use Rattle.model.specs.Refusal.{sheetRefusal}
-use Rattle.model.specs.Stepper.{State, queueOf, queueRight, stateRight, zeroState, startRefusal, start, planByte, byteRight, speedRefusal, speed, isEntry, moved, nextRefusal, advanceRefusal, advance}
+use Rattle.model.specs.Stepper.{State, queueOf, queueRight, stateRight, zeroState, startRefusal, start, planByte, byteRight, speedRefusal, speed, isEntryAt, isEntry, moved, nextRefusal, advanceRefusal, advance}
 use Rattle.model.specs.Tests.{check, _then_}
-use Rattle.model.proofs.Tests.{and-left, and-right, and-fails-right, check-zero, check-true, check-false, then-left, then-right, then-on, then-passes, then-fails, then-stops, then-then}
+use Rattle.model.proofs.Tests.{anywhere-one, and-both, and-left, and-right, and-fails-right, check-zero, check-true, check-false, then-left, then-right, then-on, then-passes, then-fails, then-stops, then-then}
 
 module _ (s : Counted) where
   -- start
@@ -164,6 +164,13 @@ module _ (s : Counted) where
 
   -- advance
 
+  -- each entry of the sheet is one
+  pub entry-at : (i : ℕ) → i < s .jobCount → T (isEntry s (sizeAt s i) (deadlineAt s i))
+  unfolding isEntry
+  entry-at i l =
+      anywhere-one (isEntryAt s (sizeAt s i) (deadlineAt s i)) (s .jobCount) i l
+      (and-both (eqb (sizeAt s i) (sizeAt s i)) _ (eqb-refl (sizeAt s i)) (eqb-refl (deadlineAt s i)))
+
   -- the next state
   pub moved-by : (x : State) (byte size deadline : ℕ) →
       moved s x byte size deadline ≡
@@ -193,3 +200,23 @@ module _ (s : Counted) where
   unfolding advanceRefusal
   advance-refusal-next plan x size deadline e right =
       then-on (speedRefusal s plan x) _ e ∙ then-passes (isEntry s size deadline) 15 _ right
+
+  -- what they answer, and what when they refuse
+
+  -- the number of a start is that of its refusal; "A refused start gives an all-zero state"
+  pub start-number : (x : State) → (start s x .number ≡ startRefusal s x) × ((start s x .number ≡ 0 → ⊥) → start s x .state ≡ zeroState)
+  unfolding start
+  start-number x = (refl, λ some. rw (ne-eqb (startRefusal s x) 0 some))
+
+  -- the number of a speed call is that of its refusal; "A refused speed is 0"
+  pub speed-number : (plan : List ℕ) (x : State) →
+      (speed s plan x .number ≡ speedRefusal s plan x) × ((speed s plan x .number ≡ 0 → ⊥) → speed s plan x .speed ≡ 0)
+  unfolding speed
+  speed-number plan x = (refl, λ some. rw (ne-eqb (speedRefusal s plan x) 0 some))
+
+  -- the number of an advance is that of its refusal; "a refused advance hands back the state it got"
+  pub advance-number : (plan : List ℕ) (x : State) (size deadline : ℕ) →
+      (advance s plan x size deadline .number ≡ advanceRefusal s plan x size deadline) ×
+      ((advance s plan x size deadline .number ≡ 0 → ⊥) → advance s plan x size deadline .state ≡ x)
+  unfolding advance
+  advance-number plan x size deadline = (refl, λ some. rw (ne-eqb (advanceRefusal s plan x size deadline) 0 some))

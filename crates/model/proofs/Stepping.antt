@@ -9,7 +9,7 @@ use mathlib.Core.Option.{some}
 use native.Mathlib.Nat.{le-refl, le-of-lt, mul-le-mul, sub-zero}
 use native.Mathlib.Omega.{arith}
 use borrow.Author.Tests.{le-leb}
-use lib.Dec.{T, leb, eqb, le→leb, eqb-refl}
+use lib.Dec.{T, leb, le→leb}
 use lib.ListN.{length, getD}
 use Rattle.process.specs.Recursion as recursion
 use Rattle.process.specs.Recursion.{ruled}
@@ -20,15 +20,15 @@ use Rattle.model.specs.Counted.{Counted, sizeAt, deadlineAt, weightAt, o
 use Rattle.model.specs.Plan.{nextQueue, processOf, HasValue, placeOfQueue, rowRefusal}
 use Rattle.model.specs.Queue.{Queue, total, positions, queueIn, placesOf, bearable, unusedZero, bearableIn, oneSlot}
 use Rattle.model.specs.Refusal.{sheetRefusal}
-use Rattle.model.specs.Stepper.{State, queueOf, queueRight, stateRight, start, planByte, byteRight, speedRefusal, speed, isEntryAt, isEntry, moved, energyLimit, nextRefusal, advanceRefusal, advance}
+use Rattle.model.specs.Stepper.{State, queueOf, queueRight, stateRight, start, planByte, byteRight, speedRefusal, speed, isEntry, moved, energyLimit, nextRefusal, advanceRefusal, advance}
 use Rattle.model.specs.Tests.{check, _then_}
 use Rattle.model.proofs.Admissible.{good-bearable}
 use Rattle.model.proofs.Counted.{on-sheet, energy-of-upto}
 use Rattle.model.proofs.Queues.{length-slot, held-bearable, length-in, length-places, in-first-places, places-hold}
 use Rattle.model.proofs.Refusal.{Ranged, accepted, speeds-rise, greatest-energy-high}
 use Rattle.model.proofs.Rooms.{row-accepted}
-use Rattle.model.proofs.Stepper.{state-right, start-by, start-refusal-0, energy-decides, speed-by, speed-refusal-14, speed-refusal-16-or-0, first-decides, moved-by, advance-by, advance-refusal-speed, advance-refusal-next}
-use Rattle.model.proofs.Tests.{holds-true, and-both, anywhere-one, check-passes, check-true, then-both}
+use Rattle.model.proofs.Stepper.{state-right, start-by, start-refusal-0, energy-decides, speed-by, speed-refusal-14, speed-refusal-16-or-0, byte-at, first-decides, entry-at, moved-by, advance-by, advance-refusal-speed, advance-refusal-next}
+use Rattle.model.proofs.Tests.{holds-true, and-both, check-passes, check-true, then-both}
 
 -- plan bytes that are right: at every slot before the horizon, for every bearable queue that has a value, the byte begins a least way
 abbrev pub RightPlan : Counted → List ℕ → Type 0
@@ -109,10 +109,9 @@ module _ (s : Counted) where
 
     -- the plan byte begins a least way
     first : IsFirst (processOf s) (s .jobCount) (weightAt s) (s .horizon - t) (queueOf s x) byte
-    unfolding planByte
     first =
-        subst (λ (u : ℕ). IsFirst (processOf s) (s .jobCount) (weightAt s) (s .horizon - t) (queueOf s x)
-        (getD plan (placeOfQueue s u (queueOf s x)) 0)) (sym (g .at-slot))
+        let at-slot = byte-at s plan x ∙ ap (λ (u : ℕ). getD plan (placeOfQueue s u (queueOf s x)) 0) (g .at-slot) in
+        subst (IsFirst (processOf s) (s .jobCount) (weightAt s) (s .horizon - t) (queueOf s x)) (sym at-slot)
         (right-plan t h (queueOf s x) long (held-bearable (M s) (s .bound) (x .queue) (g .right)) (g .has-value))
 
     -- so it is a sheet speed and at least w(1), and after each entry the queue has a value again
@@ -154,20 +153,14 @@ module _ (s : Counted) where
       next-bearable : T (bearable (M s) next)
       next-bearable = value-bearable (row-accepted s (length plan) e .0) (suc t) next (onward .2 i l)
 
-      -- it is an entry
-      entry : T (isEntry s (sizeAt s i) (deadlineAt s i))
-      unfolding isEntry
-      entry =
-          anywhere-one (isEntryAt s (sizeAt s i) (deadlineAt s i)) (s .jobCount) i l
-          (and-both (eqb (sizeAt s i) (sizeAt s i)) _ (eqb-refl (sizeAt s i)) (eqb-refl (deadlineAt s i)))
-
       -- 15, 17 and 18 pass
       advance-zero : advanceRefusal s plan x (sizeAt s i) (deadlineAt s i) ≡ 0
       advance-zero =
           let after = moved-by s x byte (sizeAt s i) (deadlineAt s i) in
           let right = going-right t x (le-of-lt h) g in
           let small = energy-small (row-accepted s (length plan) e .0) x (subst T (sym right) tt) byte (onward .0) in
-          advance-refusal-next s plan x (sizeAt s i) (deadlineAt s i) speed-zero (holds-true (isEntry s (sizeAt s i) (deadlineAt s i)) entry) ∙
+          advance-refusal-next s plan x (sizeAt s i) (deadlineAt s i) speed-zero
+          (holds-true (isEntry s (sizeAt s i) (deadlineAt s i)) (entry-at s i l)) ∙
           ap (nextRefusal s) after ∙
           then-both (check (bearable (M s) (queueIn (s .bound) (placesOf next))) 17) _
           (check-passes (bearable (M s) (queueIn (s .bound) (placesOf next))) 17
@@ -176,16 +169,16 @@ module _ (s : Counted) where
 
       -- and stepping goes on
       next-going : Going s (suc t) (moved s x byte (sizeAt s i) (deadlineAt s i))
-      unfolding moved
       next-going =
           let few : length next ≤ 6 = omega (arith, next-long, ranges .bound-high) in
-          record {
+          subst (Going s (suc t)) (sym (moved-by s x byte (sizeAt s i) (deadlineAt s i)))
+          (record {
             six = length-places next;
             right = subst (λ (D : ℕ). T (bearableIn (M s) D (placesOf next))) next-long (places-hold (M s) next few next-bearable);
             at-slot = ap suc (g .at-slot);
             energy-upto = omega (arith, g .energy-upto, energy-of-upto s byte (onward .0));
             has-value = subst (HasValue s (suc t)) (sym in-next) (onward .2 i l);
-          }
+          })
 
       -- advance by any entry of the sheet: number 0, the next state, and stepping goes on from it
       pub stepped : (advance s plan x (sizeAt s i) (deadlineAt s i) ≡

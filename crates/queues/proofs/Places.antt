@@ -1,5 +1,6 @@
 -- A queue and the six places that it stands in: the queue in the first D places, the places of a queue, the total in a place after a slot
--- and with an arrival, and the tests that go from place to place. The proofs of src/slot.rt stand on these laws.
+-- and with an arrival, and the tests that go from place to place. The proofs of src/slot.rt stand on these laws; those that the model's
+-- own laws need are in its proofs/Queues.antt.
 use Prim.Native.Nat.{ℕ, zero, suc, _+_, _*_, _-_, min, _≤_, _<_}
 use mathlib.Core.Path.{_≡_, refl, sym, ap, _∙_}
 use mathlib.Core.Bool.{Bool, true, false, cond, not, _&&_}

@@ -64,6 +64,10 @@ module _ (s : Counted) (x : model.State) (speed size deadline : ℕ) where
       ap (λ (l : List ℕ). bearable (M s) (queueIn (s .bound) l))
       (queue-is ∙ sym (ap (λ (y : model.State). y .queue) (moved-by s x speed size deadline)))
 
+  -- its energy
+  next-energy : next .energy ≡ x .energy + energyOf s speed
+  next-energy = ap (λ (y : model.State). y .energy) (moved-by s x speed size deadline)
+
   -- 17: the state stays
   pub moved-17 : bearable (M s) (model.queueOf s next) ≡ false → movedOrRefused s x speed size deadline ≡ record { number = 17; state = x }
   moved-17 wrong = moved-by-number (then-fails (bearable (M s) (model.queueOf s next)) 16 _ wrong)
@@ -72,19 +76,17 @@ module _ (s : Counted) (x : model.State) (speed size deadline : ℕ) where
   pub moved-18 : bearable (M s) (model.queueOf s next) ≡ true → model.energyLimit < x .energy + energyOf s speed →
       movedOrRefused s x speed size deadline ≡ record { number = 18; state = x }
   moved-18 right over =
-      let energy = ap (λ (y : model.State). y .energy) (moved-by s x speed size deadline) in
       moved-by-number
       (then-passes (bearable (M s) (model.queueOf s next)) 17 _ right ∙
-      check-false (leb (next .energy) model.energyLimit) 18 (lt-leb (next .energy) model.energyLimit (omega (arith, energy))))
+      check-false (leb (next .energy) model.energyLimit) 18 (lt-leb (next .energy) model.energyLimit (omega (arith, next-energy))))
 
   -- neither: the next state
   pub moved-0 : bearable (M s) (model.queueOf s next) ≡ true → x .energy + energyOf s speed ≤ model.energyLimit →
       movedOrRefused s x speed size deadline ≡ record { number = 0; state = next }
   moved-0 right small =
-      let energy = ap (λ (y : model.State). y .energy) (moved-by s x speed size deadline) in
       moved-by-number
       (then-passes (bearable (M s) (model.queueOf s next)) 17 _ right ∙
-      check-true (leb (next .energy) model.energyLimit) 18 (le-leb (next .energy) model.energyLimit (omega (arith, energy))))
+      check-true (leb (next .energy) model.energyLimit) 18 (le-leb (next .energy) model.energyLimit (omega (arith, next-energy))))
 
   -- where the speed is the plan's and the arrival an entry, this is the advance
   pub moved-advances : (plan : List ℕ) → speed ≡ model.planByte s plan x → model.speedRefusal s plan x ≡ 0 →
