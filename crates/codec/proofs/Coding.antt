@@ -7,8 +7,8 @@ use native.Mathlib.Omega.{arith}
 use borrow.Author.Tests.{lt-ltb, le-ltb}
 use lib.ListN.{length, set, length-set}
 use Rattle.model.specs.Bytes.{codeIn}
-use Rattle.codec.specs.Laid.{Laid}
-use Rattle.codec.proofs.Buffers.{laid-one, laid-then}
+use Rattle.buffers.specs.Laid.{Laid}
+use Rattle.buffers.proofs.Laid.{laid-one, laid-then}
 
 -- the last group
 code-last : (most x : ℕ) → 1 ≤ most → x < 128 → codeIn most x ≡ x ∷ []

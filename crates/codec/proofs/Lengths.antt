@@ -1,24 +1,21 @@
 -- The lengths of codes and of tables of codes: what the writer works out first, and that none of its sums wraps.
-use Prim.Native.Nat.{ℕ, zero, suc, _+_, _*_, _≤_, _<_}
-use mathlib.Core.Path.{_≡_, refl, ap}
+use Prim.Native.Nat.{ℕ, _+_, _*_, _≤_, _<_}
+use mathlib.Core.Path.{_≡_, refl}
 use mathlib.Core.Bool.{Bool, true, false, cond}
-use mathlib.Core.List.{List, _++_}
-use mathlib.Core.Logic.{⊎-elim}
-use native.Mathlib.Nat.{suc-mul, eq-or-lt-of-le, le-of-suc-le-suc}
-use native.Mathlib.Numerals.{add-one}
+use mathlib.Core.List.{_++_}
 use native.Mathlib.Omega.{arith}
 use borrow.Author.Tests.{lt-ltb, le-ltb}
 use lib.Dec.{ltb}
 use lib.ListN.{length, getD, length-append}
 use Rattle.model.proofs.Codes.{length-code}
 use Rattle.model.proofs.Refusal.{ranged}
+use Rattle.model.proofs.Tests.{turn-times}
 use Rattle.model.specs.Bytes.{code, speedCode, jobCode, speedBytes, jobBytes, sheetBytes}
 use Rattle.model.specs.Counted.{Counted, zeroSpeed, zeroJob, speedAt, energyAt, weightAt, sizeAt, deadlineAt}
 use Rattle.model.specs.Refusal.{fieldsRefusal}
-use Rattle.model.specs.Tests.{inTurn}
 use Rattle.model.specs.declared.Job.{Job}
 use Rattle.model.specs.declared.Speed.{Speed}
-use Rattle.codec.specs.Laid.{SpeedShort, JobShort}
+use Rattle.codec.specs.Short.{SpeedShort, JobShort}
 
 -- one number's code
 
@@ -42,28 +39,6 @@ chosen-upto false false = omega arith
 -- three bytes at most
 pub code-upto : (x : ℕ) {r : ℕ} → r ≡ length (code x) → r ≤ 3
 code-upto x e = rw (e, length-code x) (chosen-upto (ltb x 128) (ltb x 16384))
-
--- lists in turn: each law is of both tables
-
--- one list more
-pub turn-next : (f : ℕ → List ℕ) {all one : ℕ} (j : ℕ) → all ≡ length (inTurn f j) → one ≡ length (f j) →
-    all + one ≡ length (inTurn f (j + 1))
-unfolding inTurn
-turn-next f j e d = rw add-one (omega (arith, length-append (inTurn f j) (f j)))
-
--- the first few are no longer than all
-pub turn-upto : (f : ℕ → List ℕ) (j n : ℕ) → j ≤ n → length (inTurn f j) ≤ length (inTurn f n)
-unfolding inTurn
-turn-upto f j zero h = let none : j ≡ 0 = omega arith in omega (arith, ap (λ k. length (inTurn f k)) none)
-turn-upto f j (suc n) h =
-    ⊎-elim (λ e. omega (arith, ap (λ k. length (inTurn f k)) e))
-    (λ l. omega (arith, turn-upto f j n (le-of-suc-le-suc l), length-append (inTurn f n) (f n))) (eq-or-lt-of-le h)
-
--- n lists of at most b
-turn-times : (f : ℕ → List ℕ) (n b : ℕ) → ((j : ℕ) → length (f j) ≤ b) → length (inTurn f n) ≤ n * b
-unfolding inTurn
-turn-times f zero b h = omega arith
-turn-times f (suc n) b h = omega (arith, turn-times f n b h, h n, length-append (inTurn f n) (f n), suc-mul n b)
 
 -- a speed's code and the speeds'
 

@@ -3,6 +3,5 @@ pub mod Steps
 pub mod Rows
 pub mod Stages
 pub mod Lengths
-pub mod Buffers
 pub mod Coding
 pub mod Outcomes

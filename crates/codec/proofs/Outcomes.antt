@@ -2,24 +2,23 @@
 use Prim.Native.Nat.{ℕ, _≤_, _<_}
 use mathlib.Core.Path.{_≡_, refl}
 use mathlib.Core.List.{List}
-use native.Mathlib.Nat.{zero-add}
-use borrow.Author.Tests.{ne-eqb, eqb-false}
+use borrow.Author.Tests.{eqb-false}
 use lib.ListN.{length}
 use Rattle.model.proofs.RoundTrip.{write-fits, write-short}
 use Rattle.model.proofs.Tests.{then-stops}
+use Rattle.model.proofs.Written.{written-refused}
 use Rattle.model.specs.Bytes.{sheetBytes, writeRefusal, write}
 use Rattle.model.specs.Counted.{Counted}
 use Rattle.model.specs.Refusal.{sheetRefusal}
+use Rattle.buffers.proofs.Laid.{laid-written}
 use Rattle.codec.specs.Calls.{IsWritten}
-use Rattle.codec.specs.Laid.{Laid}
+use Rattle.buffers.specs.Laid.{Laid}
 
 -- a refusal touches nothing and has the length 0
 refused-with : (s : Counted) (buffer : List ℕ) (number : ℕ) → writeRefusal s (length buffer) ≡ number → (number ≡ 0 → ⊥) →
     IsWritten s buffer number 0 buffer
 unfolding write
-refused-with s buffer number e some =
-    let test = ne-eqb number 0 some in
-    record { number-is = rw (e, test); written-is = rw (e, test); buffer-is = rw (e, test) }
+refused-with s buffer number e some = rw e (written-refused (sheetBytes s) buffer some)
 
 -- the sheet is refused
 pub write-refused : (s : Counted) (buffer : List ℕ) {number : ℕ} → number ≡ sheetRefusal s → (number ≡ 0 → ⊥) →
@@ -33,13 +32,7 @@ pub refused-short : (s : Counted) (buffer : List ℕ) → sheetRefusal s ≡ 0 �
 refused-short s buffer e short = refused-with s buffer 11 (write-short s (length buffer) e short) (eqb-false 11 0 refl)
 
 -- nothing is refused: the sheet's bytes, laid from the first place on, are what is written
-done-with : (s : Counted) {before after : List ℕ} {next : ℕ} → writeRefusal s (length before) ≡ 0 →
-    Laid 0 (sheetBytes s) before after next → IsWritten s before 0 next after
-unfolding write
-done-with s e laid =
-    record { number-is = rw e; written-is = rw e (rw zero-add at (laid .next-is)); buffer-is = rw e (rw zero-add at (laid .buffer-is)) }
-
--- the sheet is written
 pub write-done : (s : Counted) {before after : List ℕ} {next : ℕ} → sheetRefusal s ≡ 0 → length (sheetBytes s) ≤ length before →
     Laid 0 (sheetBytes s) before after next → IsWritten s before 0 next after
-write-done s {before = before} e room laid = done-with s (write-fits s (length before) e room) laid
+unfolding write
+write-done s {before = before} e room laid = laid-written (writeRefusal s (length before)) (write-fits s (length before) e room) laid

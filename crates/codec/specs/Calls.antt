@@ -3,7 +3,7 @@
 use Prim.Native.Nat.{ℕ}
 use mathlib.Core.Path.{_≡_}
 use mathlib.Core.List.{List}
-use Rattle.model.specs.Bytes.{write}
+use Rattle.model.specs.Bytes.{Wrote, write}
 use Rattle.model.specs.Counted.{Counted}
 use Rattle.model.specs.Reading.{read}
 use Rattle.model.specs.declared.Sheet.{Sheet}
@@ -14,7 +14,5 @@ pub record IsRead (bytes : List ℕ) (number : ℕ) (sheet : Sheet) : Type 0 whe
   pub sheet-is : sheet ≡ read bytes .sheet
 
 -- what a write answers, and the lent buffer before and after it
-pub record IsWritten (s : Counted) (before : List ℕ) (number written : ℕ) (after : List ℕ) : Type 0 where
-  pub number-is : number ≡ write s before .number
-  pub written-is : written ≡ write s before .written
-  pub buffer-is : after ≡ write s before .buffer
+abbrev pub IsWritten : Counted → (before : List ℕ) → (number written : ℕ) → (after : List ℕ) → Type 0
+IsWritten s before number written after = Wrote (write s before) number written after

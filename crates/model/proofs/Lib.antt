@@ -1,5 +1,6 @@
 pub mod Computed
 pub mod Tests
+pub mod Written
 pub mod Counted
 pub mod Queues
 pub mod Refusal
@@ -12,5 +13,6 @@ pub mod Leaves
 pub mod Cases
 pub mod Recursion
 pub mod Rooms
+pub mod Listing
 pub mod Stepper
 pub mod Stepping

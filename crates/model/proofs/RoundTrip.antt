@@ -3,14 +3,13 @@
 use Prim.Native.Nat.{ℕ, zero, suc, _+_, _^_, _≤_, _<_}
 use mathlib.Core.Path.{_≡_, refl, sym, ap, _∙_, subst}
 use mathlib.Core.List.{List, [], _∷_, _++_, append-assoc, append-nil, flatMap}
-use native.Mathlib.Nat.{le-refl, lt-irrefl, suc-ne-zero}
+use native.Mathlib.Nat.{le-refl, lt-irrefl}
 use native.Mathlib.Omega.{arith}
-use borrow.Author.Tests.{le-leb, lt-leb, leb-true, ne-eqb}
-use mathlib.Core.Bool.{cond}
-use lib.Dec.{leb, eqb}
+use borrow.Author.Tests.{le-leb, lt-leb, leb-true}
+use lib.Dec.{leb}
 use lib.ListN.{length, take, drop, replicate, length-append}
 use lib.Seq.{take-all, take-take, take-at, length-take-le}
-use Rattle.model.specs.Bytes.{AreBytes, code, speedBytes, jobBytes, sheetBytes, writeRefusal, Written, write}
+use Rattle.model.specs.Bytes.{AreBytes, code, speedBytes, jobBytes, sheetBytes, writeRefusal, write}
 use Rattle.model.specs.Counted.{Counted, sheetOf, counted, inMemory, zeroSpeed, zeroJob}
 use Rattle.model.specs.Reading.{Answer, value, refused, readSpeedTable, readJobTable, judged, readCounted, readAnswer, read}
 use Rattle.model.specs.Refusal.{boundRight, speedCountRight, horizonRight, jobCountRight, speedsRefusal, jobsRefusal, fieldsRefusal, limitsRefusal, refusalGiven, sheetRefusal, N}
@@ -20,6 +19,7 @@ use Rattle.model.proofs.Codes.{field-code, field-bytes}
 use Rattle.model.proofs.Readers.{Positive, read-positive, value-same, onward-gave, test-gave, refuse-gave, holds-then, tested-gave, Stand, stand-join, stand-split, tableFields, speedFields, jobFields, speed-entries, job-entries, table-gave, table-value, fields-read}
 use Rattle.model.proofs.Refusal.{Ranged, ranged}
 use Rattle.model.proofs.Tests.{then-both, then-left, then-right, then-on, check-true, check-false}
+use Rattle.model.proofs.Written.{written-number}
 
 -- as many places as the counts say
 pub record WellCounted (s : Counted) : Type 0 where
@@ -216,14 +216,7 @@ written-accepted s e w =
 -- the number of a write is that of its tests
 pub write-number : (s : Counted) (buffer : List ℕ) → write s buffer .number ≡ writeRefusal s (length buffer)
 unfolding write
-write-number s buffer = go (writeRefusal s (length buffer))
-  where
-    go : (n : ℕ) →
-        cond {A = Written} (eqb n 0)
-        (record { number = 0; written = length (sheetBytes s); buffer = sheetBytes s ++ drop (length (sheetBytes s)) buffer })
-        (record { number = n; written = 0; buffer = buffer }) .number ≡ n
-    go zero = refl
-    go (suc n) = rw (ne-eqb (suc n) 0 (suc-ne-zero n))
+write-number s buffer = written-number (writeRefusal s (length buffer)) (sheetBytes s) buffer
 
 -- the number of an accepted sheet's write, by the room that it has
 

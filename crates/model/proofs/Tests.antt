@@ -1,15 +1,16 @@
 -- Laws of the tests and of the small loops over places (specs/Tests.antt).
-use Prim.Native.Nat.{ℕ, zero, suc, max, _+_, _≤_, _<_}
+use Prim.Native.Nat.{ℕ, zero, suc, max, _+_, _*_, _≤_, _<_}
 use mathlib.Core.Path.{_≡_, refl, sym, ap, subst, _∙_}
 use mathlib.Core.Bool.{Bool, true, false, cond, _&&_, _||_}
+use mathlib.Core.List.{List}
 use mathlib.Core.Logic.{⊎-elim, _⊎_, inl, inr}
-use native.Mathlib.Nat.{le-refl, le-trans, le-max-left, le-max-right, max-le, not-suc-le-zero, eq-or-lt-of-le, le-of-suc-le-suc, suc-ne-zero, lt-irrefl, not-le-of-lt, lt-of-le-of-lt}
+use native.Mathlib.Nat.{le-refl, le-trans, le-max-left, le-max-right, max-le, not-suc-le-zero, eq-or-lt-of-le, le-of-suc-le-suc, suc-ne-zero, lt-irrefl, not-le-of-lt, lt-of-le-of-lt, suc-mul}
 use native.Mathlib.Numerals.{add-one}
 use native.Mathlib.Omega.{arith}
 use borrow.Author.Tests.{ltb-true, ltb-false, le-ltb}
 use lib.Dec.{T, ltb, ltb→lt, lt→ltb}
-use lib.ListN.{length, getD}
-use Rattle.model.specs.Tests.{check, _then_, inOrder, everywhere, anywhere, firstPlace, greatest, listed}
+use lib.ListN.{length, getD, length-append}
+use Rattle.model.specs.Tests.{check, _then_, inOrder, everywhere, anywhere, firstPlace, greatest, listed, inTurn}
 
 -- a test that holds is true
 pub holds-true : (passes : Bool) → T passes → passes ≡ true
@@ -301,3 +302,25 @@ anywhere-first test n =
     same-test (anywhere test n) (ltb (firstPlace test n) n)
     (λ t. let f = anywhere-at test n t in lt→ltb (firstPlace test n) n (lt-of-le-of-lt (first-upto test n (f .0) (f .1) (f .2)) (f .1)))
     (λ t. let l = ltb→lt (firstPlace test n) n t in anywhere-one test n (firstPlace test n) l (first-holds test n l))
+
+-- lists in turn
+
+-- one list more
+pub turn-next : {A : Type 0} (f : ℕ → List A) {all one : ℕ} (j : ℕ) → all ≡ length (inTurn f j) → one ≡ length (f j) →
+    all + one ≡ length (inTurn f (j + 1))
+unfolding inTurn
+turn-next f j e d = rw add-one (omega (arith, length-append (inTurn f j) (f j)))
+
+-- the first few are no longer than all
+pub turn-upto : {A : Type 0} (f : ℕ → List A) (j n : ℕ) → j ≤ n → length (inTurn f j) ≤ length (inTurn f n)
+unfolding inTurn
+turn-upto f j zero h = let none : j ≡ 0 = omega arith in omega (arith, ap (λ k. length (inTurn f k)) none)
+turn-upto f j (suc n) h =
+    ⊎-elim (λ e. omega (arith, ap (λ k. length (inTurn f k)) e))
+    (λ l. omega (arith, turn-upto f j n (le-of-suc-le-suc l), length-append (inTurn f n) (f n))) (eq-or-lt-of-le h)
+
+-- n lists of at most b
+pub turn-times : {A : Type 0} (f : ℕ → List A) (n b : ℕ) → ((j : ℕ) → length (f j) ≤ b) → length (inTurn f n) ≤ n * b
+unfolding inTurn
+turn-times f zero b h = omega arith
+turn-times f (suc n) b h = omega (arith, turn-times f n b h, h n, length-append (inTurn f n) (f n), suc-mul n b)

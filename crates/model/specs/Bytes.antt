@@ -1,5 +1,6 @@
 -- Document 01, "Bytes": a number's code, a sheet's bytes, and what the writer leaves.
 use Prim.Native.Nat.{ℕ, zero, suc, _+_, _%_, _/_, _<_}
+use mathlib.Core.Path.{_≡_}
 use mathlib.Core.Bool.{cond}
 use mathlib.Core.List.{List, [], _∷_, _++_}
 use lib.Dec.{leb, ltb, eqb}
@@ -53,16 +54,25 @@ sheetBytes s =
 unfoldable pub writeRefusal : Counted → ℕ → ℕ
 writeRefusal s room = sheetRefusal s then check (leb (length (sheetBytes s)) room) 11
 
--- what the writer answers, and what it leaves in the lent buffer
+-- what a call that writes bytes answers, and what it leaves in the lent buffer
 pub record Written : Type 0 where
   pub number : ℕ
   pub written : ℕ
   pub buffer : List ℕ
 
--- the sheet's bytes and then what stood there; "A refused write .. touches no lent place and reports zero for length"
-unfoldable pub write : Counted → List ℕ → Written
-write s buffer =
-    let number = writeRefusal s (length buffer) in
+-- of its number and its bytes: they, and then what stood there; "A refused write .. touches no lent place and reports zero for length"
+abbrev pub written : ℕ → List ℕ → List ℕ → Written
+written number bytes buffer =
     cond (eqb number 0)
-    (record { number = 0; written = length (sheetBytes s); buffer = sheetBytes s ++ drop (length (sheetBytes s)) buffer })
+    (record { number = 0; written = length bytes; buffer = bytes ++ drop (length bytes) buffer })
     (record { number = number; written = 0; buffer = buffer })
+
+-- a call answered this number and this length and left this buffer, as `w` says
+pub record Wrote (w : Written) (number length : ℕ) (after : List ℕ) : Type 0 where
+  pub number-is : number ≡ w .number
+  pub written-is : length ≡ w .written
+  pub buffer-is : after ≡ w .buffer
+
+-- the writer's: the sheet's bytes
+unfoldable pub write : Counted → List ℕ → Written
+write s buffer = written (writeRefusal s (length buffer)) (sheetBytes s) buffer

@@ -8,6 +8,7 @@ use mathlib.Core.Option.{Option, none, some}
 use lib.ListN.{length, getD, take, replicate, set}
 use Rattle.model.specs.Bytes.{code, sheetBytes, write}
 use Rattle.model.specs.Counted.{Counted, counted, sheetOf}
+use Rattle.model.specs.Listing.{text, decimal, listing, list}
 use Rattle.model.specs.Plan.{IsValueAt, IsCostAt, IsPlanByte, Decided, FromEmpty, valueIn, admissible, planRefusal, row}
 use Rattle.model.specs.Queue.{Queue, emptyQueue, placesOf, run, arrive, queueCount, numberOf, bearable}
 use Rattle.model.specs.Reading.{Answer, value, refused, field, read}
@@ -422,5 +423,28 @@ casesOfSteps =
     steps (advance A planA (state (0 ∷ 2 ∷ []) 0 0) 2 1) 15 (state (0 ∷ 2 ∷ []) 0 0) ∷
     []
 
+-- "For sheet A the whole output is"
+abbrev pub listingA : List ℕ
+listingA = text "queues 12 scale 4 least 0\n0: 0 0 1 1 2 1 1 1 2 2 2 2\n1: 0 0 0 1 2 1 1 1 2 2 2 2\n"
+
+-- the listing
+unfoldable pub casesOfListings : List Case
+casesOfListings =
+    lists (listing A 0 planA) listingA ∷
+    -- the scale is a power of W; bytes of one to three digits, and the two queues of a slot
+    lists (listing (doubling 1 3) 907 (0 ∷ 1 ∷ 10 ∷ 99 ∷ 100 ∷ 255 ∷ [])) (text "queues 2 scale 8 least 907\n0: 0 1\n1: 10 99\n2: 100 255\n") ∷
+    -- the largest number of 64 bits has 20 digits
+    lists (decimal none64) (text "18446744073709551615") ∷
+    -- eleven: a buffer of 79, a plan of twelve; places past the length stay
+    numbers (list A 0 planA (replicate 79 7) .number) 11 ∷
+    numbers (list A 0 planA (replicate 79 7) .written) 0 ∷
+    lists (list A 0 planA (replicate 79 7) .buffer) (replicate 79 7) ∷
+    numbers (list A 0 A0 (replicate 82 7) .number) 11 ∷
+    numbers (list A 0 planA (replicate 80 7) .number) 0 ∷
+    numbers (list A 0 planA (replicate 82 7) .written) 80 ∷
+    lists (list A 0 planA (replicate 82 7) .buffer) (listingA ++ (7 ∷ 7 ∷ [])) ∷
+    numbers (list crowded 0 [] [] .number) 5 ∷
+    []
+
 unfoldable pub cases : List Case
-cases = casesP ++ (casesOfPlans ++ (casesOfQueues ++ (casesOfRefusals ++ (casesOfBytes ++ casesOfSteps))))
+cases = casesP ++ (casesOfPlans ++ (casesOfQueues ++ (casesOfRefusals ++ (casesOfBytes ++ (casesOfSteps ++ casesOfListings)))))

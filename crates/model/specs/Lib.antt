@@ -5,5 +5,6 @@ pub mod Refusal
 pub mod Bytes
 pub mod Reading
 pub mod Plan
+pub mod Listing
 pub mod Stepper
 pub mod Cases

@@ -10,7 +10,8 @@ use Rattle.model.specs.Counted.{counted}
 use Rattle.model.specs.Tests.{inTurn}
 use Rattle.model.specs.declared.Job.{Job}
 use Rattle.sheets.proofs.Places.{job-counts}
-use Rattle.codec.proofs.Lengths.{code-upto, turn-next, job-length, jobs-upto}
+use Rattle.model.proofs.Tests.{turn-next}
+use Rattle.codec.proofs.Lengths.{code-upto, job-length, jobs-upto}
 use Rattle.codec.proofs.writer.jobs_length.Statement.{statement}
 use Rattle.codec.proofs.writer.jobs_length.Tie as tie
 

@@ -2,7 +2,7 @@
 use mathlib.Core.List.{_++_}
 use borrow.Author.Needs.{needs}
 use Rattle.model.specs.Bytes.{code}
-use Rattle.codec.proofs.Buffers.{laid-then, room-first, room-then}
+use Rattle.buffers.proofs.Laid.{laid-then, room-first, room-then}
 use Rattle.codec.proofs.writer.put_job.Statement.{statement}
 use Rattle.codec.proofs.writer.put_job.Tie as tie
 

@@ -7,8 +7,9 @@ use Rattle.model.specs.Bytes.{jobBytes, jobCode}
 use Rattle.model.specs.Counted.{counted}
 use Rattle.model.specs.Tests.{inTurn}
 use Rattle.sheets.proofs.Places.{job-counts}
-use Rattle.codec.specs.Laid.{Laid, JobShort}
-use Rattle.codec.proofs.Buffers.{laid-none, laid-length, turn-room, turn-laid}
+use Rattle.buffers.specs.Laid.{Laid}
+use Rattle.codec.specs.Short.{JobShort}
+use Rattle.buffers.proofs.Laid.{laid-none, laid-length, turn-room, turn-laid}
 use Rattle.codec.proofs.Lengths.{job-short}
 use Rattle.codec.proofs.writer.put_jobs.Statement.{statement}
 use Rattle.codec.proofs.writer.put_jobs.Tie as tie

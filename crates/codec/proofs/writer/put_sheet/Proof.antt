@@ -8,7 +8,7 @@ use Rattle.model.proofs.Refusal.{ranged, Ranged}
 use Rattle.model.specs.Bytes.{code, speedBytes, jobBytes, sheetBytes}
 use Rattle.model.specs.Counted.{counted}
 use Rattle.model.specs.declared.Sheet.{Sheet}
-use Rattle.codec.proofs.Buffers.{laid-then, room-first, room-then}
+use Rattle.buffers.proofs.Laid.{laid-then, room-first, room-then}
 use Rattle.codec.proofs.writer.put_sheet.Statement.{statement}
 use Rattle.codec.proofs.writer.put_sheet.Tie as tie
 

@@ -1,7 +1,7 @@
 -- `put_speed` meets its contract: the speed's code is laid, and the energy's behind it.
 use borrow.Author.Needs.{needs}
 use Rattle.model.specs.Bytes.{code}
-use Rattle.codec.proofs.Buffers.{laid-then, room-first, room-then}
+use Rattle.buffers.proofs.Laid.{laid-then, room-first, room-then}
 use Rattle.codec.proofs.writer.put_speed.Statement.{statement}
 use Rattle.codec.proofs.writer.put_speed.Tie as tie
 

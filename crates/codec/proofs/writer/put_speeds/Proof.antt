@@ -7,8 +7,9 @@ use Rattle.model.specs.Bytes.{speedBytes, speedCode}
 use Rattle.model.specs.Counted.{counted}
 use Rattle.model.specs.Tests.{inTurn}
 use Rattle.sheets.proofs.Places.{speed-counts}
-use Rattle.codec.specs.Laid.{Laid, SpeedShort}
-use Rattle.codec.proofs.Buffers.{laid-none, laid-length, turn-room, turn-laid}
+use Rattle.buffers.specs.Laid.{Laid}
+use Rattle.codec.specs.Short.{SpeedShort}
+use Rattle.buffers.proofs.Laid.{laid-none, laid-length, turn-room, turn-laid}
 use Rattle.codec.proofs.Lengths.{speed-short}
 use Rattle.codec.proofs.writer.put_speeds.Statement.{statement}
 use Rattle.codec.proofs.writer.put_speeds.Tie as tie

@@ -10,7 +10,8 @@ use Rattle.model.specs.Counted.{counted}
 use Rattle.model.specs.Tests.{inTurn}
 use Rattle.model.specs.declared.Speed.{Speed}
 use Rattle.sheets.proofs.Places.{speed-counts}
-use Rattle.codec.proofs.Lengths.{code-upto, turn-next, speed-length, speeds-upto}
+use Rattle.model.proofs.Tests.{turn-next}
+use Rattle.codec.proofs.Lengths.{code-upto, speed-length, speeds-upto}
 use Rattle.codec.proofs.writer.speeds_length.Statement.{statement}
 use Rattle.codec.proofs.writer.speeds_length.Tie as tie
 

@@ -2,14 +2,15 @@
 use Prim.Native.Nat.{ℕ, suc, _+_, _≤_, _<_}
 use mathlib.Core.Path.{_≡_, refl, sym, ap, _∙_}
 use mathlib.Core.List.{List, [], _∷_, _++_, append-assoc}
-use native.Mathlib.Nat.{add-zero, add-assoc}
+use native.Mathlib.Nat.{add-zero, zero-add, add-assoc}
 use native.Mathlib.Numerals.{add-one}
 use native.Mathlib.Omega.{arith}
 use lib.ListN.{length, take, drop, set, length-append, length-drop, take-append-drop}
 use lib.Seq.{length-take-le, set-split, take-append-seam, drop-append-add, drop-drop}
+use Rattle.model.specs.Bytes.{written, Wrote}
 use Rattle.model.specs.Tests.{inTurn}
-use Rattle.codec.specs.Laid.{laid, Laid}
-use Rattle.codec.proofs.Lengths.{turn-upto}
+use Rattle.model.proofs.Tests.{turn-upto}
+use Rattle.buffers.specs.Laid.{laid, Laid}
 
 -- nothing
 pub laid-none : (at : ℕ) (buffer : List ℕ) → Laid at [] buffer buffer at
@@ -76,3 +77,9 @@ module _ (f : ℕ → List ℕ) (j n : ℕ) {l : List ℕ} (here : f j ≡ l) (i
   pub turn-laid : {after : List ℕ} {last : ℕ} → Laid next l between after last → Laid at (inTurn f (j + 1)) before after last
   unfolding inTurn
   turn-laid second = rw (add-one, here) (laid-then first second turn-first)
+
+-- what is laid from the first place on is what a call writes that is not refused
+pub laid-written : {bytes before after : List ℕ} {next : ℕ} (tested : ℕ) → tested ≡ 0 → Laid 0 bytes before after next →
+    Wrote (written tested bytes before) 0 next after
+laid-written tested e laid =
+    record { number-is = rw e; written-is = rw e (rw zero-add at (laid .next-is)); buffer-is = rw e (rw zero-add at (laid .buffer-is)) }
