@@ -1,4 +1,4 @@
-"""An independent implementation of document 01: reading, refusing and planning.
+"""An independent implementation of document 01: reading, refusing, planning and listing.
 
 It was written from the text of document 01 and of the open points decided beside it,
 without looking at the proved code, so that the two can be compared: where they differ,
@@ -11,7 +11,12 @@ prints a line for each file of sheet bytes, `NAME: number R queues N least L val
 plan P`. R is the number of the read if that is refused, else the planner's 0 or 12; N
 and L are what the planner reports; V and P are the checksums (see `checksum`) of all
 (T+1)*N values and all T*N plan bytes. A refused sheet has 0 everywhere but in R. NAME is
-the file as it was named. Lent memory is not modelled: there is no number 11 and no row call.
+the file as it was named. Nothing is lent for this line, so there is no number 11 in it.
+
+    python3 tests/independent.py --listing [FILE...]
+
+prints what 01's planning program writes for the bytes of each file or, where none is named,
+of standard input (see `program`). There memory is lent, and number 11 can be met.
 
 The sheets of crates/walk_plans/data, each what it is for:
     sheet_a  document 01's own: D 2, speeds 0 to 2, 2 jobs, T 2, 12 queues
@@ -28,6 +33,8 @@ from itertools import islice
 from pathlib import Path
 
 MOST_QUEUES = 65_535
+# What the planning program reads, and what it lends.
+PROGRAM_SHEET_BYTES, PROGRAM_VALUES, PROGRAM_PLAN_BYTES = 512, 8_000, 60_000
 NONE_VALUE, NONE_SPEED = 2**64 - 1, 255  # how "none" is written in values and plan
 
 
@@ -56,6 +63,11 @@ class Sheet:
     def weight_sum(self):
         """W."""
         return sum(weight for weight, _, _ in self.jobs)
+
+
+# 01's worked sheet, and its bytes in hex as they stand there.
+SHEET_A = Sheet(2, ((0, 0), (1, 1), (2, 4)), 2, ((1, 0, 1), (1, 2, 2)))
+SHEET_A_BYTES = "02 03 00 00 01 01 02 04 02 02 01 00 01 01 02 02"
 
 
 def read_number(stream):
@@ -92,6 +104,20 @@ def memory_fields(sheet):
     yield len(sheet.jobs)
     for entry in sheet.jobs:
         yield from entry
+
+
+def number_bytes(number):
+    """The bytes of a number, in "the shortest form only"."""
+    groups = []
+    while number >= 128:
+        groups.append(128 + number % 128)
+        number //= 128
+    return bytes([*groups, number])
+
+
+def sheet_bytes(sheet):
+    """The bytes of a sheet, also of one that is refused: 01's writer without its refusals."""
+    return b"".join(number_bytes(number) for number in memory_fields(sheet))
 
 
 def within(value, least, most, number):
@@ -167,6 +193,11 @@ def bearable_queues(bound, largest_speed, queue=()):
         yield from bearable_queues(bound, largest_speed, (*queue, work))
 
 
+def count_queues(sheet):
+    """N."""
+    return sum(1 for _ in bearable_queues(sheet.bound, sheet.largest_speed()))
+
+
 def run_slot(queue, speed):
     """The queue after a slot and before the arrival: "w'(u) = w(u+1) - s, or 0 if that
     is negative, with w(D) standing for w(D+1)"."""
@@ -234,12 +265,78 @@ def plan_sheet(sheet):
     values, plan = [0] * len(queues), []
     for slot in reversed(range(sheet.horizon)):
         next_values = values[: len(queues)]
-        row, plan_of_slot = plan_row(sheet, slot, choices_of_queues, numbers, next_values)
-        values, plan = row + values, plan_of_slot + plan
+        values_of_slot, plan_of_slot = plan_row(
+            sheet, slot, choices_of_queues, numbers, next_values)
+        values, plan = values_of_slot + values, plan_of_slot + plan
     # "The empty queue is 0"; 12 "fills both buffers and reports N, least energy 0".
     if values[0] == NONE_VALUE:
         return 12, len(queues), 0, values, plan
     return 0, len(queues), values[0], values, plan
+
+
+def plan_of(sheet):
+    """The plan bytes of a sheet."""
+    return plan_sheet(sheet)[4]
+
+
+def refuse_lent_plan(sheet, plan):
+    """The number of a sheet with the plan bytes lent for it: "4 to 10, 11". A plan longer
+    than T times N bytes "is fine in every call" (open point 3)."""
+    number = refuse_sheet(sheet)
+    if number == 0 and len(plan) < sheet.horizon * count_queues(sheet):
+        return 11
+    return number
+
+
+def plan_lent(sheet, values, plan):
+    """(number, N, least energy) of the planner. It fills what it is lent: "values, (T+1)
+    times N places of 64 bits, row t from place t times N; and the plan, T times N bytes,
+    likewise. Places beyond are untouched". Nothing is planned before 11 is told."""
+    number = refuse_lent_plan(sheet, plan)
+    if number == 0 and len(values) < (sheet.horizon + 1) * count_queues(sheet):
+        number = 11
+    if number != 0:
+        return number, 0, 0
+    number, queue_count, least, planned_values, planned_speeds = plan_sheet(sheet)
+    values[: len(planned_values)] = planned_values
+    plan[: len(planned_speeds)] = planned_speeds
+    return number, queue_count, least
+
+
+def row(sheet, plan, slot):
+    """The row call, which answers "the part of the caller's plan that belongs to slot t, and
+    an empty part on any refusal or when t is not below T", whatever the bytes are (open
+    point 4)."""
+    if refuse_lent_plan(sheet, plan) != 0 or slot >= sheet.horizon:
+        return []
+    queue_count = count_queues(sheet)
+    return plan[slot * queue_count : (slot + 1) * queue_count]
+
+
+def listing(sheet, least, plan):
+    """The bytes of the listing. "The header has N, W to the power T, and the empty queue's
+    value at slot 0. Each further line has the slot, a colon and the plan byte of each queue
+    in order. A line feed ends every line"."""
+    scale = sheet.weight_sum() ** sheet.horizon
+    lines = [f"queues {count_queues(sheet)} scale {scale} least {least}\n"]
+    for slot in range(sheet.horizon):
+        speeds = "".join(f" {byte}" for byte in row(sheet, plan, slot))
+        lines.append(f"{slot}:{speeds}\n")
+    return "".join(lines).encode()
+
+
+def program(data):
+    """What the planning program writes for these bytes of standard input. It "reads up to
+    512 sheet bytes from standard input, lends 8,000 values and 60,000 plan bytes, and writes
+    either `refused n`, for any number but 0, or the listing"; 12 is a refusal here too, and
+    a line feed ends that line as well (open point 8)."""
+    number, sheet = read_sheet(data[:PROGRAM_SHEET_BYTES])
+    if number == 0:
+        plan = [0] * PROGRAM_PLAN_BYTES
+        number, _, least = plan_lent(sheet, [0] * PROGRAM_VALUES, plan)
+    if number != 0:
+        return f"refused {number}\n".encode()
+    return listing(sheet, least, plan)
 
 
 def checksum(numbers):
@@ -259,6 +356,15 @@ def report(path):
             f" values {checksum(values)} plan {checksum(plan)}")
 
 
+def main(words):
+    if words[:1] == ["--listing"]:
+        named = [Path(name).read_bytes() for name in words[1:]]
+        for data in named or [sys.stdin.buffer.read()]:
+            sys.stdout.buffer.write(program(data))
+    else:
+        for name in words:
+            print(report(Path(name)))
+
+
 if __name__ == "__main__":
-    for name in sys.argv[1:]:
-        print(report(Path(name)))
+    main(sys.argv[1:])

@@ -32,7 +32,7 @@ from pathlib import Path
 
 sys.dont_write_bytecode = True  # no folder of compiled files beside the tests
 from independent import (
-    Refused, add_job, bearable_queues, plan_sheet, read_sheet, refuse_sheet, run_slot, within,
+    Refused, add_job, bearable_queues, plan_of, read_sheet, refuse_sheet, run_slot, within,
 )
 
 POSITIONS = 6  # of a queue in memory, whatever D is
@@ -49,9 +49,9 @@ class State:
     energy: int = 0
 
 
-def padded(totals):
-    """The queue in memory with these totals at its first positions."""
-    return (*totals, *[0] * (POSITIONS - len(totals)))
+def at(totals, slot=0, energy=0):
+    """The state with these totals at the first positions of its queue."""
+    return State((*totals, *[0] * (POSITIONS - len(totals))), slot, energy)
 
 
 def accepted_queues(sheet):
@@ -106,7 +106,7 @@ def next_state(sheet, plan, state, size, deadline):
     if totals not in numbers:
         raise Refused(17)
     energy = within(state.energy + dict(sheet.speeds)[chosen], 0, MOST_ENERGY, 18)
-    return State(padded(totals), state.slot + 1, energy)
+    return at(totals, state.slot + 1, energy)
 
 
 def start(sheet, state):
@@ -153,7 +153,7 @@ def print_runs(sheet, plan):
     """Part 1."""
     for w1, w2 in product(range(4), range(6)):
         # Start does not look at this slot and energy.
-        number, begin = start(sheet, State(padded((w1, w2)), 9, 9))
+        number, begin = start(sheet, at((w1, w2), 9, 9))
         print(f"start {w1} {w2}: {given(number, begin)}")
         if number != 0:
             continue
@@ -174,7 +174,7 @@ def print_damaged(sheet, plan_length):
         plan = [byte] * plan_length
         for w1 in range(3):
             for w2 in range(w1, 5):
-                state = State(padded((w1, w2)), 0, 0)
+                state = at((w1, w2))
                 print_speed(f"queue {w1} {w2} ", sheet, plan, state)
                 for size, deadline in (0, 1), (2, 2), (1, 1):
                     answer = given(*advance(sheet, plan, state, size, deadline))
@@ -184,17 +184,17 @@ def print_damaged(sheet, plan_length):
 def print_states(sheet, plan):
     """Part 3."""
     for slot, energy in product(range(4), range(10)):
-        state = State(padded((0, 2)), slot, energy)
+        state = at((0, 2), slot, energy)
         print_speed(f"slot {slot} energy {energy} ", sheet, plan, state)
-    print_speed("unused ", sheet, plan, State(padded((0, 2, 1)), 0, 0))
-    print_speed("short ", sheet, plan[:-1], State(padded((0, 2)), 0, 0))
+    print_speed("unused ", sheet, plan, at((0, 2, 1)))
+    print_speed("short ", sheet, plan[:-1], at((0, 2)))
 
 
 def main(name):
     number, sheet = read_sheet(Path(name).read_bytes())
     if number != 0:
         sys.exit(f"{name}: refused {number}")
-    _, _, _, _, plan = plan_sheet(sheet)
+    plan = plan_of(sheet)
     print_runs(sheet, plan)
     print_damaged(sheet, len(plan))
     print_states(sheet, plan)

@@ -3,8 +3,8 @@
     python3 tests/test_independent.py
 
 prints `ok`, or stops at the first check that fails. The cases are those of 01's
-"Worked sheet" and of the open points that concern reading, refusing, planning and
-stepping. `check_ways` then tries ALL ways of small sheets, as 01 defines them, with
+"Worked sheet" and of the open points that concern reading, refusing, planning, listing
+and stepping. `check_ways` then tries ALL ways of small sheets, as 01 defines them, with
 queues stepped by code of its own; nothing there uses the backward induction.
 `check_runs` steps small sheets along all lists of entries, which must spend the value.
 """
@@ -15,13 +15,11 @@ from itertools import product
 
 sys.dont_write_bytecode = True  # no folder of compiled files beside the tests
 from independent import (
-    NONE_SPEED, NONE_VALUE, Refused, Sheet, add_job, bearable_queues, checksum,
-    memory_fields, plan_sheet, read_number, read_sheet, refuse_sheet, run_slot,
+    NONE_SPEED, NONE_VALUE, SHEET_A, SHEET_A_BYTES, Refused, Sheet, add_job, bearable_queues,
+    checksum, plan_lent, plan_of, plan_sheet, program, read_number, read_sheet, refuse_sheet,
+    row, run_slot, sheet_bytes,
 )
-from stepping import State, advance, padded, speed, start
-
-SHEET_A = Sheet(2, ((0, 0), (1, 1), (2, 4)), 2, ((1, 0, 1), (1, 2, 2)))
-SHEET_A_BYTES = "02 03 00 00 01 01 02 04 02 02 01 00 01 01 02 02"
+from stepping import State, advance, at, speed, start
 
 
 def read_hex(text):
@@ -37,17 +35,6 @@ def read_one(text):
         return read_number(iter(bytes.fromhex(text)))
     except Refused as refusal:
         return str(refusal)
-
-
-def sheet_bytes(sheet):
-    """The bytes of a sheet, to read back; 01's writer, without its refusals."""
-    data = []
-    for number in memory_fields(sheet):
-        while number >= 128:
-            data.append(128 + number % 128)
-            number //= 128
-        data.append(number)
-    return bytes(data)
 
 
 def one_job(bound, speeds, horizon, job):
@@ -167,6 +154,80 @@ def check_open_points():
     assert set(plan_sheet(sheet)[3]) == {0, NONE_VALUE}
 
 
+def planned_in(sheet, value_places, plan_bytes):
+    """What the planner reports with so much lent, and the places that it was lent."""
+    values, plan = [7] * value_places, [9] * plan_bytes
+    return plan_lent(sheet, values, plan), values, plan
+
+
+def check_lent():
+    _, _, _, values, plan = plan_sheet(SHEET_A)
+    assert planned_in(SHEET_A, 36, 24) == ((0, 12, 0), values, plan)
+    # "Places beyond are untouched", and all of them on a refusal.
+    assert planned_in(SHEET_A, 38, 25) == ((0, 12, 0), values + [7] * 2, plan + [9])
+    for value_places, plan_bytes in (35, 24), (36, 23), (35, 99), (99, 23), (0, 0):
+        untouched = [7] * value_places, [9] * plan_bytes
+        assert planned_in(SHEET_A, value_places, plan_bytes) == ((11, 0, 0), *untouched)
+    assert planned_in(Sheet(), 1, 1) == ((4, 0, 0), [7], [9])
+    # "12 is the exception: it fills both buffers and reports N, least energy 0".
+    hopeless = one_job(1, [(0, 0), (1, 1)], 1, (1, 2, 1))
+    assert planned_in(hopeless, 5, 3) == (
+        (12, 2, 0), [NONE_VALUE] * 2 + [0] * 2 + [7], [NONE_SPEED] * 2 + [9])
+    assert planned_in(hopeless, 3, 2)[0] == planned_in(hopeless, 4, 1)[0] == (11, 0, 0)
+
+
+def check_rows():
+    plan = plan_of(SHEET_A)
+    for lent in plan, plan + [9]:
+        assert row(SHEET_A, lent, 0) == plan[:12] and row(SHEET_A, lent, 1) == plan[12:]
+        assert row(SHEET_A, lent, 2) == row(SHEET_A, lent, 4_294_967_295) == []
+    # Open points 3 and 4: T times N bytes "whatever the slot", "never the bytes".
+    assert row(SHEET_A, plan[:-1], 0) == row(SHEET_A, [], 0) == row(Sheet(), plan, 0) == []
+    assert row(SHEET_A, [200] * 24, 1) == [200] * 12
+
+
+def check_listing():
+    whole = bytes.fromhex(SHEET_A_BYTES)
+    assert program(whole) == (
+        b"queues 12 scale 4 least 0\n"
+        b"0: 0 0 1 1 2 1 1 1 2 2 2 2\n"
+        b"1: 0 0 0 1 2 1 1 1 2 2 2 2\n")
+    # "W to the power T" is not W. Every list spends 6, and the products of the weights of
+    # all lists add up to 25.
+    sheet = Sheet(1, ((0, 3), (1, 3)), 2, ((2, 0, 1), (3, 1, 1)))
+    assert program(sheet_bytes(sheet)) == b"queues 2 scale 25 least 150\n0: 0 1\n1: 0 1\n"
+    # The empty queue has a plan and others have not: none "is written .. 255 in the plan".
+    assert program(sheet_bytes(one_job(2, [(0, 0), (2, 4)], 2, (1, 3, 2)))) == (
+        b"queues 12 scale 1 least 4\n"
+        b"0: 0 2 2 255 255 2 2 255 255 2 255 255\n"
+        b"1: 0 0 2 2 255 2 2 2 255 2 2 255\n")
+
+
+def check_program():
+    # Open point 8: the first 512 bytes are judged, "which is never an accepted sheet".
+    whole = bytes.fromhex(SHEET_A_BYTES)
+    for data, number in [
+        (b"", 1),
+        (b"\x80" * 512, 2),
+        (whole.ljust(512, b"\0"), 3),
+        (whole.ljust(600, b"\0"), 3),
+        (sheet_bytes(one_job(1, [(0, 0), (1, 1)], 1, (1, 2, 1))), 12),
+    ]:
+        assert program(data) == f"refused {number}\n".encode(), number
+    # 42 queues and 8,000 values: 190 rows of values fit, 191 do not, though 190 rows of the
+    # plan would. 12 comes after 11, and 9 and 10 come before it.
+    for size, horizon, answer in [
+        (1, 189, b"queues 42 scale 1 least 189\n0: "),
+        (1, 190, b"refused 11\n"),
+        (255, 189, b"refused 12\n"),
+        (255, 190, b"refused 11\n"),
+    ]:
+        sheet = one_job(4, [(0, 1), (1, 1)], horizon, (1, size, 1))
+        assert program(sheet_bytes(sheet)).startswith(answer), (size, horizon)
+    assert program(sheet_bytes(one_job(6, [(0, 0), (2, 1)], 58, (2, 0, 1)))) == b"refused 9\n"
+    assert program(sheet_bytes(one_job(5, [(0, 0), (6, 1)], 1, (1, 0, 1)))) == b"refused 10\n"
+
+
 def check_figure():
     """Document 000's first figure, as 01 and open point 18 tell it."""
     queue = add_job((0,) * 6, 2, 4)
@@ -265,16 +326,6 @@ def check_ways():
                 nones += value == NONE_VALUE
                 ties += len(first_speeds) > 1
     assert nones > 100 and ties > 100  # the sheets tell the rules apart
-
-
-def at(totals, slot=0, energy=0):
-    """The state with these first totals."""
-    return State(padded(totals), slot, energy)
-
-
-def plan_of(sheet):
-    """The plan bytes of a sheet."""
-    return plan_sheet(sheet)[4]
 
 
 def both(sheet, plan, state, size, deadline):
@@ -463,6 +514,10 @@ if __name__ == "__main__":
     check_horizon()
     check_number_12()
     check_open_points()
+    check_lent()
+    check_rows()
+    check_listing()
+    check_program()
     check_figure()
     check_checksum()
     check_ways()

@@ -83,6 +83,11 @@ pub plan-first : (s : Counted) (valuesRoom planRoom : ℕ) → planRefusal s val
 unfolding planRefusal planLines
 plan-first s valuesRoom planRoom = rw (← sheet-then s _, then-nothing)
 
+-- the listing's
+list-first : (s : Counted) (least : ℕ) (plan : List ℕ) (room : ℕ) → listRefusal s least plan room ≡ firstOf (listLines s least plan room)
+unfolding listRefusal listLines
+list-first s least plan room = rw (← sheet-then s _, then-nothing)
+
 -- the row call
 pub row-first : (s : Counted) (room : ℕ) → rowRefusal s room ≡ firstOf (rowLines s room)
 unfolding rowRefusal rowLines
@@ -205,6 +210,12 @@ pub plan-told : (s : Counted) (valuesRoom planRoom : ℕ) → Tells (planRefusal
 unfolding planLines
 plan-told s valuesRoom planRoom =
     tells (planLines s valuesRoom planRoom) (sheet-positive s _ (omega arith, tt)) (plan-first s valuesRoom planRoom)
+
+-- the listing
+pub list-told : (s : Counted) (least : ℕ) (plan : List ℕ) (room : ℕ) → Tells (listRefusal s least plan room) (listLines s least plan room)
+unfolding listLines
+list-told s least plan room =
+    tells (listLines s least plan room) (sheet-positive s _ (omega arith, tt)) (list-first s least plan room)
 
 -- the row call
 pub row-told : (s : Counted) (room : ℕ) → Tells (rowRefusal s room) (rowLines s room)

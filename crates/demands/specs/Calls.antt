@@ -20,6 +20,9 @@ use Rattle.planner.proofs.plan.Kinds as plan-kinds
 use Rattle.planner.proofs.plan.Reads as plan
 use Rattle.planner.proofs.row.Kinds as row-kinds
 use Rattle.planner.proofs.row.Reads as row
+use Rattle.listing.specs.declared.call.Listed.{Listed}
+use Rattle.listing.proofs.list.Kinds as list-kinds
+use Rattle.listing.proofs.list.Reads as list
 use Rattle.stepper.specs.declared.state.State.{State}
 use Rattle.stepper.specs.declared.state.Stepped.{Stepped}
 use Rattle.stepper.specs.declared.state.Told.{Told}
@@ -76,6 +79,18 @@ pub record Rows (sheet : Sheet) (bytes : List ℕ) (slot : ℕ) (part : List ℕ
   pub answer : resT row-kinds.r lifetimes .Denot
   pub answer-is : now answer ≡ part
   pub contract : row.Post lifetimes lent answer at-exit
+
+-- `list` was given this sheet, this least energy and this plan, and lent this buffer; it answered this and left the buffer so
+pub record Lists (sheet : Sheet) (least : ℕ) (bytes before : List ℕ) (answer : Listed) (after : List ℕ) : Type 0 where
+  pub lifetimes : Lfts 2
+  pub lent : Dens lifetimes list-kinds.ps
+  pub at-exit : AtExit (endedOf 2 list-kinds.ps list-kinds.r) lifetimes
+  pub sheet-listed : lent .0 ≡ sheet
+  pub least-is : lent .1 .0 ≡ least
+  pub plan-lent : now (lent .1 .1 .0) ≡ bytes
+  pub before-is : now (lent .1 .1 .1 .0) ≡ before
+  pub after-is : now (at-exit .1 .1 .1 .0) ≡ after
+  pub contract : list.Post lifetimes lent answer at-exit
 
 -- `start` of this state was given this sheet; it answered this
 pub record Starts (state : State) (sheet : Sheet) (answer : Stepped) : Type 0 where

@@ -10,6 +10,7 @@ use lib.Dec.{T, leb, ltb, eqb}
 use lib.ListN.{length, getD}
 use Rattle.model.specs.Bytes.{sheetBytes}
 use Rattle.model.specs.Counted.{Counted, speedAt, energyAt, weightAt, sizeAt, deadlineAt, W, M, G}
+use Rattle.model.specs.Listing.{listing}
 use Rattle.model.specs.Plan.{IsValueAt, valuesNeeded, planNeeded}
 use Rattle.model.specs.Queue.{emptyQueue, bearable}
 use Rattle.model.specs.Reading.{Answer, value, refused, field}
@@ -180,6 +181,11 @@ planLines s valuesRoom planRoom = sheetLines s ++ line 11 (leb (valuesNeeded s) 
 -- the row call: T times N bytes, whatever the slot
 unfoldable pub rowLines : Counted → ℕ → List Line
 rowLines s room = sheetLines s ++ line 11 (leb (planNeeded s) room) ∷ []
+
+-- the listing: the plan, T times N bytes, and as many bytes for the listing as it has
+unfoldable pub listLines : Counted → (least : ℕ) → (plan : List ℕ) → (room : ℕ) → List Line
+listLines s least plan room =
+    sheetLines s ++ line 11 (leb (planNeeded s) (length plan) && leb (length (listing s least plan)) room) ∷ []
 
 -- what the planner's number is. 12 comes after all the lines: "12: planned, but the empty queue at slot 0 has none"
 pub record PlanTells (s : Counted) (valuesRoom planRoom number : ℕ) : Type 0 where

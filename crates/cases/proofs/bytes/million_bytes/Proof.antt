@@ -3,8 +3,8 @@ use Prim.Native.Nat.{ℕ}
 use mathlib.Core.Path.{sym}
 use borrow.Author.Needs.{needs}
 use lib.ListN.{length-replicate}
-use Rattle.cases.proofs.million_bytes.Statement.{statement}
-use Rattle.cases.proofs.million_bytes.Tie as tie
+use Rattle.cases.proofs.bytes.million_bytes.Statement.{statement}
+use Rattle.cases.proofs.bytes.million_bytes.Tie as tie
 
 slice-aggregate-read-case : tie.Need-slice-aggregate-read-case
 slice-aggregate-read-case c = search needs

@@ -1,14 +1,14 @@
--- `print_jobs` is safe and ends: no place past the 32nd is looked at.
+-- `print_speeds` is safe and ends: no place past the ninth is looked at.
 use Prim.Native.Nat.{_≤_, _-_}
 use borrow.Author.Needs.{needs}
-use Rattle.cases.proofs.print_jobs.Statement.{statement}
-use Rattle.cases.proofs.print_jobs.Tie as tie
+use Rattle.cases.proofs.bytes.print_speeds.Statement.{statement}
+use Rattle.cases.proofs.bytes.print_speeds.Tie as tie
 
 abbrev Inv-loop : tie.InvT-loop
-Inv-loop sheet place₀ place = place ≤ 32
+Inv-loop sheet place₀ place = place ≤ 9
 
 abbrev μ-loop : tie.MeasureT-loop
-μ-loop sheet place₀ place = 32 - place
+μ-loop sheet place₀ place = 9 - place
 
 loop-holds : tie.Need-loop-holds Inv-loop μ-loop
 loop-holds c = search needs
@@ -31,9 +31,6 @@ print-number-requires c κs = search needs
 print-number-requires-2 : tie.Need-print-number-requires-2 Inv-loop μ-loop
 print-number-requires-2 c κs = search needs
 
-print-number-requires-3 : tie.Need-print-number-requires-3 Inv-loop μ-loop
-print-number-requires-3 c κs = search needs
-
 add-place : tie.Need-add-place Inv-loop μ-loop
 add-place c = search needs
 
@@ -46,8 +43,8 @@ loop-again c = search needs
 returns-2 : tie.Need-returns-2 Inv-loop μ-loop
 returns-2 c = search needs
 
-pub print-jobs-spec : {M : Type 1} → statement M
-print-jobs-spec =
+pub print-speeds-spec : {M : Type 1} → statement M
+print-speeds-spec =
     tie.close
     (tie.spec
     Inv-loop
@@ -59,7 +56,6 @@ print-jobs-spec =
     element-copy-out-one
     print-number-requires
     print-number-requires-2
-    print-number-requires-3
     add-place
     loop-less
     loop-again

@@ -1,0 +1,5 @@
+pub mod Digits
+pub mod Heads
+pub mod Rows
+pub mod Outcomes
+pub mod Within
