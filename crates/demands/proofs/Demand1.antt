@@ -16,6 +16,7 @@ use lib.ListN.{length}
 use Rattle.process.proofs.Definite.{value-unique}
 use Rattle.model.specs.Bytes.{sheetBytes, writeRefusal, write}
 use Rattle.model.specs.Counted.{Counted, counted, inMemory, speedAt, energyAt, weightAt, zeroSheet, M}
+use Rattle.model.specs.Listing.{listing, listRefusal, list}
 use Rattle.model.specs.Plan.{processOf, IsValueAt, valueIn, valuesNeeded, planNeeded, planRefusal, number12, Filled, LeavesBy, rowRefusal}
 use Rattle.model.specs.Plan as model-plan
 use Rattle.model.specs.Queue.{emptyQueue, bearable}
@@ -23,9 +24,12 @@ use Rattle.model.specs.Refusal.{boundRight, speedCountRight, speedRight, energy
 use Rattle.model.specs.Tests.{everywhere}
 use Rattle.model.specs.declared.Sheet.{Sheet}
 use Rattle.model.proofs.Rooms.{row-none, row-past, row-accepted}
+use Rattle.model.proofs.Listing.{list-number}
 use Rattle.model.proofs.RoundTrip.{write-number}
+use Rattle.model.proofs.Written.{wrote-refused}
 use Rattle.codec.specs.declared.reader.ReadSheet.{ReadSheet}
 use Rattle.codec.specs.declared.writer.Written.{Written}
+use Rattle.listing.specs.declared.call.Listed.{Listed}
 use Rattle.planner.specs.declared.calls.PlanAnswer.{PlanAnswer}
 use Rattle.model.specs.Stepper as model-stepper
 use Rattle.model.specs.Stepper.{queueOf, queueRight, stateRight, planByte, byteRight, speedRefusal, isEntry, moved, energyLimit, zeroState}
@@ -35,14 +39,14 @@ use Rattle.stepper.specs.Calls.{stateOf}
 use Rattle.stepper.specs.declared.state.State.{State}
 use Rattle.stepper.specs.declared.state.Stepped.{Stepped}
 use Rattle.stepper.specs.declared.state.Told.{Told}
-use Rattle.demands.specs.Calls.{Reads, Writes, Plans, Rows, Starts, Speeds, Advances}
-use Rattle.demands.specs.Numbers.{line, AllPass, FailsFirst, Tells, PlanTells, OneOf, linesOfJob, fieldLines, linesToSpeedCount, linesToSpeed, linesToEnergy, linesToHorizon, linesToJobCount, linesToJob, valueFits, limitLines, nothing, sheetLines, writeLines, planLines, rowLines, startLines, speedLines, advanceLines, linesTo9, linesTo14, linesTo16, linesTo17, linesTo18, sheetIn, endOf, endLine, reading, readLines}
+use Rattle.demands.specs.Calls.{Reads, Writes, Plans, Rows, Lists, Starts, Speeds, Advances}
+use Rattle.demands.specs.Numbers.{line, AllPass, FailsFirst, Tells, PlanTells, OneOf, linesOfJob, fieldLines, linesToSpeedCount, linesToSpeed, linesToEnergy, linesToHorizon, linesToJobCount, linesToJob, valueFits, limitLines, nothing, sheetLines, writeLines, planLines, rowLines, listLines, startLines, speedLines, advanceLines, linesTo9, linesTo14, linesTo16, linesTo17, linesTo18, sheetIn, endOf, endLine, reading, readLines}
 use Rattle.demands.proofs.Demand2.{planned-filled}
-use Rattle.demands.proofs.Determined.{answered, read-is, write-is, plan-is, row-is, start-is, speed-is, advance-is}
+use Rattle.demands.proofs.Determined.{answered, read-is, write-is, plan-is, row-is, list-is, start-is, speed-is, advance-is}
 use Rattle.demands.proofs.InOrder.{Each, Other, all-front, each-append, all-or-fails, fails-at, tells-at, fails-front, tells-front, tells-so, one-of, one-of-range}
 use Rattle.demands.proofs.PlanInOrder.{by-value, by-line, plan-so, row-there}
 use Rattle.demands.proofs.ReadInOrder.{read-told, read-zero, read-accepted}
-use Rattle.demands.proofs.SheetInOrder.{fields-4, fields-5, fields-6, fields-7, fields-8, limits-9, limits-10, fields-numbers, room-numbers, sheet-without, sheet-told, write-told, plan-told, row-told, row-numbers}
+use Rattle.demands.proofs.SheetInOrder.{fields-4, fields-5, fields-6, fields-7, fields-8, limits-9, limits-10, fields-numbers, room-numbers, sheet-without, sheet-told, write-told, plan-told, list-told, row-told, row-numbers}
 use Rattle.demands.proofs.StepperInOrder.{start-numbers, speed-lines-numbers, advance-numbers, speed-without, start-told, speed-told, advance-told}
 
 -- a sheet in memory: "A sheet in memory is tested 4 to 10 in that field order by every call"
@@ -266,10 +270,7 @@ pub write-refused : {sheet : Sheet} {before after : List ℕ} {a : Written} → 
 unfolding write
 write-refused {sheet = sheet} {before = before} call refused =
     let s = counted sheet in
-    let promised = write-is call in
-    let same = promised .number-is ∙ write-number s before in
-    let test = ne-eqb (writeRefusal s (length before)) 0 (λ e. refused (same ∙ e)) in
-    (promised .written-is ∙ rw test, promised .buffer-is ∙ rw test)
+    wrote-refused (writeRefusal s (length before)) (sheetBytes s) before (write-is call) refused
 
 -- "0: done"
 pub write-0 : {sheet : Sheet} {before after : List ℕ} {a : Written} → Writes sheet before a after →
@@ -408,6 +409,47 @@ row-empty {sheet = sheet} {bytes = bytes} {part = part} {slot = slot} call =
 
     past : sheet .horizon ≤ slot → part ≡ []
     past h = row-is call ∙ sym (row-past (counted sheet) bytes slot h)
+
+-- list: 4 to 10, then 11 for a plan or a buffer that is too short
+
+module _ {sheet : Sheet} {least : ℕ} {bytes before after : List ℕ} {a : Listed} (call : Lists sheet least bytes before a after) where
+  -- the number tells those lines
+  pub list-tells : Tells (a .number) (listLines (counted sheet) least bytes (length before))
+  list-tells =
+      let s = counted sheet in
+      let same = list-is call .number-is ∙ list-number s least bytes before in
+      subst (λ (n : ℕ). Tells n (listLines s least bytes (length before))) (sym same) (list-told s least bytes (length before))
+
+  -- it gives no other number
+  pub list-gives : OneOf (0 ∷ 4 ∷ 5 ∷ 6 ∷ 7 ∷ 8 ∷ 9 ∷ 10 ∷ 11 ∷ []) (a .number)
+  unfolding listLines everywhere
+  list-gives =
+      let numbers : List ℕ = 0 ∷ 4 ∷ 5 ∷ 6 ∷ 7 ∷ 8 ∷ 9 ∷ 10 ∷ 11 ∷ [] in
+      tells-so (OneOf numbers) list-tells (room-numbers (OneOf numbers) (counted sheet) _ (one-of-range numbers 4 11 tt)) (inl refl)
+
+  -- a refused listing touches no lent place and reports zero for length, as a refused write does
+  pub list-refused : (a .number ≡ 0 → ⊥) → (a .length ≡ 0) × (after ≡ before)
+  unfolding list
+  list-refused refused =
+      let s = counted sheet in
+      wrote-refused (listRefusal s least bytes (length before)) (listing s least bytes) before (list-is call) refused
+
+  -- "0: done"
+  pub list-0 : (a .number ≡ 0) ↔ AllPass (listLines (counted sheet) least bytes (length before))
+  list-0 = list-tells .done
+
+  -- 4 to 10: the sheet's own number
+  pub list-sheet : (n : ℕ) → 0 < n → n ≤ 10 → (a .number ≡ n) ↔ (sheetRefusal (counted sheet) ≡ n)
+  unfolding listLines
+  list-sheet n h k = tells-front (sheetLines (counted sheet)) _ list-tells (sheet-told (counted sheet)) n h (λ e. omega arith, tt)
+
+  -- "11: a lent buffer shorter than needed": the plan, T times N bytes, or the buffer, which is to hold the listing
+  pub list-11 : (a .number ≡ 11) ↔
+      (AllPass (sheetLines (counted sheet)) ×
+      (leb (planNeeded (counted sheet)) (length bytes) && leb (length (listing (counted sheet) least bytes)) (length before) ≡ false))
+  unfolding listLines
+  list-11 =
+      tells-at list-tells (sheetLines (counted sheet)) 11 _ [] refl (omega arith) (sheet-without (counted sheet) 11 (omega arith)) tt
 
 -- start: "Start: 4 to 10, 13"
 

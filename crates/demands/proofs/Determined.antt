@@ -15,12 +15,15 @@ use Rattle.model.specs.Plan as model-plan
 use Rattle.model.proofs.Leaves.{leaves-unique}
 use Rattle.planner.specs.Calls.{IsPlan, IsRow}
 use Rattle.planner.specs.declared.calls.PlanAnswer.{PlanAnswer}
+use Rattle.model.specs.Listing.{list}
+use Rattle.listing.specs.Calls.{IsListed}
+use Rattle.listing.specs.declared.call.Listed.{Listed}
 use Rattle.model.specs.Stepper as model-stepper
 use Rattle.stepper.specs.Calls.{stateOf, IsStepped, IsTold}
 use Rattle.stepper.specs.declared.state.State.{State}
 use Rattle.stepper.specs.declared.state.Stepped.{Stepped}
 use Rattle.stepper.specs.declared.state.Told.{Told}
-use Rattle.demands.specs.Calls.{Reads, Writes, Plans, Rows, Starts, Speeds, Advances}
+use Rattle.demands.specs.Calls.{Reads, Writes, Plans, Rows, Lists, Starts, Speeds, Advances}
 
 -- read
 
@@ -127,6 +130,39 @@ same-stepped a b first second =
     λ n x. record { number = n; state = record { queue = x .queue; slot = x .slot; energy = x .energy } } in
     ap (λ (n : ℕ). given n (stateOf (a .state))) (first .number-is ∙ sym (second .number-is)) ∙
     ap (given (b .number)) (first .state-is ∙ sym (second .state-is))
+
+-- list
+
+-- what a listing promises of this sheet, this least energy, this plan and this buffer
+pub list-is : {sheet : Sheet} {least : ℕ} {bytes before after : List ℕ} {answer : Listed} → Lists sheet least bytes before answer after →
+    IsListed (counted sheet) least bytes before (answer .number) (answer .length) after
+list-is {sheet = sheet} {least = least} {bytes = bytes} {before = before} {answer = answer} call =
+    let promised : Sheet → ℕ → List ℕ → List ℕ → List ℕ → Type 0 = λ s v l b a. IsListed (counted s) v l b (answer .number) (answer .length) a in
+    let plan = now (call .lent .1 .1 .0) in
+    let lent = now (call .lent .1 .1 .1 .0) in
+    let left = now (call .at-exit .1 .1 .1 .0) in
+    let of-sheet = subst (λ (s : Sheet). promised s (call .lent .1 .0) plan lent left) (call .sheet-listed) (call .contract) in
+    let of-least = subst (λ (v : ℕ). promised sheet v plan lent left) (call .least-is) of-sheet in
+    let of-plan = subst (λ (l : List ℕ). promised sheet least l lent left) (call .plan-lent) of-least in
+    let of-buffer = subst (λ (l : List ℕ). promised sheet least bytes l left) (call .before-is) of-plan in
+    subst (λ (l : List ℕ). promised sheet least bytes before l) (call .after-is) of-buffer
+
+-- equal numbers and equal lengths are equal answers
+same-listed : (a b : Listed) → a .number ≡ b .number → a .length ≡ b .length → a ≡ b
+same-listed a b e d =
+    let given : ℕ → ℕ → Listed = λ n l. record { number = n; length = l } in
+    ap (λ (n : ℕ). given n (a .length)) e ∙ ap (given (b .number)) d
+
+-- sheets with equal views, listed with one least energy and one plan into equal buffers: equal answers and equal buffers
+pub list-determined : {s t : Sheet} {least : ℕ} {bytes before after after′ : List ℕ} {a b : Listed} → counted s ≡ counted t →
+    Lists s least bytes before a after → Lists t least bytes before b after′ → (a ≡ b) × (after ≡ after′)
+list-determined {least = least} {bytes = bytes} {before = before} {a = a} {b = b} view first second =
+    let one = list-is first in
+    let two = list-is second in (
+      same-listed a b (one .number-is ∙ ap (λ (s : Counted). list s least bytes before .number) view ∙ sym (two .number-is))
+          (one .written-is ∙ ap (λ (s : Counted). list s least bytes before .written) view ∙ sym (two .written-is)),
+      one .buffer-is ∙ ap (λ (s : Counted). list s least bytes before .buffer) view ∙ sym (two .buffer-is),
+    )
 
 -- start
 

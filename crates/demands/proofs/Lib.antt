@@ -11,6 +11,7 @@ pub mod StepperInOrder
 pub mod ReadInOrder
 pub mod PlanInOrder
 pub mod Demand1
+pub mod Listing
 pub mod Hopeless
 pub mod Stepping
 pub mod SpendsLeast

@@ -10,13 +10,14 @@ use lib.Dec.{leb}
 use lib.ListN.{getD}
 use Rattle.model.specs.Bytes.{writeRefusal}
 use Rattle.model.specs.Counted.{Counted, zeroSpeed, zeroJob, speedAt, energyAt}
+use Rattle.model.specs.Listing.{listRefusal}
 use Rattle.model.specs.Plan.{planRefusal, rowRefusal}
 use Rattle.model.specs.Refusal.{boundRight, speedCountRight, speedRight, energyRight, horizonRight, jobCountRight, weightRight, sizeRight, deadlineRight, speedsRefusal, jobsRefusal, fieldsRefusal, refusal9, limitsRefusal, refusalGiven, sheetRefusal, N}
 use Rattle.model.specs.Tests.{check, _then_, inOrder, inTurn}
 use Rattle.model.specs.declared.Job.{Job}
 use Rattle.model.specs.declared.Speed.{Speed}
 use Rattle.model.proofs.Tests.{then-then, then-nothing}
-use Rattle.demands.specs.Numbers.{Line, line, AllPass, FailsFirst, Tells, speedField, jobField, fieldLine, linesOfSpeed, linesOfJob, boundLines, speedTableLines, horizonLines, jobTableLines, fieldLines, linesToSpeedCount, linesWithSpeedCount, linesToSpeed, linesToEnergy, linesToHorizon, linesToJobCount, linesToJob, speedLine, energyLine, valueFits, limitLines, nothing, sheetLines, writeLines, planLines, rowLines}
+use Rattle.demands.specs.Numbers.{Line, line, AllPass, FailsFirst, Tells, speedField, jobField, fieldLine, linesOfSpeed, linesOfJob, boundLines, speedTableLines, horizonLines, jobTableLines, fieldLines, linesToSpeedCount, linesWithSpeedCount, linesToSpeed, linesToEnergy, linesToHorizon, linesToJobCount, linesToJob, speedLine, energyLine, valueFits, limitLines, nothing, sheetLines, writeLines, planLines, rowLines, listLines}
 use Rattle.demands.proofs.InOrder.{firstOf, Each, Other, first-append, first-in-turn, each-append, each-in-turn, tells, none-fails, fails-at, tells-at, tells-table, tells-table-at}
 
 -- the numbers as the model's tests in order, where that of what comes before the range of number k is `ahead k`: between the lines and

@@ -1,0 +1,60 @@
+-- The listing of what `plan` left, over both calls' contracts: it is refused exactly where its buffer is too short, and it is 01's listing
+-- of the plan's bytes, about which demand 2 is, under the empty queue's value at slot 0.
+use Prim.Native.Nat.{ℕ, _≤_}
+use mathlib.Core.Path.{_≡_, sym, ap, subst, _∙_}
+use mathlib.Core.List.{List, _++_}
+use mathlib.Core.Option.{Option, none, some, Option·getD}
+use native.Mathlib.Omega.{arith}
+use lib.ListN.{length, drop}
+use Rattle.model.specs.Counted.{Counted, counted}
+use Rattle.model.specs.Listing.{listing, listRefusal, list}
+use Rattle.model.specs.Plan.{IsValueAt, number12, FromEmpty, rowRefusal}
+use Rattle.model.specs.Plan as model-plan
+use Rattle.model.specs.Queue.{emptyQueue}
+use Rattle.model.specs.declared.Sheet.{Sheet}
+use Rattle.model.proofs.Listing.{list-number, list-fits}
+use Rattle.model.proofs.Rooms.{plan-accepted, row-fits}
+use Rattle.listing.specs.declared.call.Listed.{Listed}
+use Rattle.planner.specs.declared.calls.PlanAnswer.{PlanAnswer}
+use Rattle.demands.specs.Calls.{Plans, Lists}
+use Rattle.demands.proofs.Demand2.{planned-by-number, planned-filled, answer-right}
+use Rattle.demands.proofs.Determined.{answered, list-is}
+
+-- the least energy that a plan of number 0 answers is the empty queue's value at slot 0
+least-is-value : (s : Counted) (a : model-plan.PlanAnswer) → FromEmpty s a → a .number ≡ 0 →
+    IsValueAt s 0 (emptyQueue (s .bound)) (some (a .least))
+least-is-value s a from-empty e = go (from-empty .r) (from-empty .is-value) (from-empty .number) (from-empty .least)
+  where
+    go : (r : Option ℕ) → IsValueAt s 0 (emptyQueue (s .bound)) r → a .number ≡ number12 r → a .least ≡ Option·getD r 0 →
+        IsValueAt s 0 (emptyQueue (s .bound)) (some (a .least))
+    go none is-value number least = absurd (omega arith)
+    go (some v) is-value number least =
+        subst (λ (u : ℕ). IsValueAt s 0 (emptyQueue (s .bound)) (some u)) (sym least) is-value
+
+module _ {sheet : Sheet} {values₀ plan₀ values bytes : List ℕ} {p : PlanAnswer} (planned : Plans sheet values₀ plan₀ p values bytes)
+    (done : p .number ≡ 0) {before after : List ℕ} {a : Listed} (call : Lists sheet (p .least) bytes before a after) where
+  -- where the buffer has room for the listing, it is not refused
+  pub listing-done : length (listing (counted sheet) (p .least) bytes) ≤ length before → a .number ≡ 0
+  listing-done room =
+      let s = counted sheet in
+      let accepted = planned-by-number planned done in
+      let tested = plan-accepted s (length values₀) (length plan₀) accepted in
+      let kept = planned-filled planned accepted .plan-length in
+      let row : rowRefusal s (length bytes) ≡ 0 = sym (row-fits s (length bytes) (tested .0) (omega (arith, tested .2, kept))) in
+      list-is call .number-is ∙ list-number s (p .least) bytes before ∙ list-fits s (p .least) bytes (length before) row room
+
+  -- and then it is the listing of these bytes, headed by the value of the empty queue at slot 0, and what stood behind it stands there
+  pub listing-right : a .number ≡ 0 →
+      let s = counted sheet in
+      (a .length ≡ length (listing s (p .least) bytes)) ×
+      (after ≡ listing s (p .least) bytes ++ drop (length (listing s (p .least) bytes)) before) ×
+      IsValueAt s 0 (emptyQueue (s .bound)) (some (p .least))
+  unfolding list
+  listing-right e =
+      let s = counted sheet in
+      let promised = list-is call in
+      let none : listRefusal s (p .least) bytes (length before) ≡ 0 = sym (list-number s (p .least) bytes before) ∙ sym (promised .number-is) ∙ e in (
+        promised .written-is ∙ rw none,
+        promised .buffer-is ∙ rw none,
+        least-is-value s (answered p) (answer-right planned (planned-by-number planned done) .1) done,
+      )
