@@ -5,7 +5,8 @@
 runs COMMAND, with its words, once for each input and one after the other. It must write to
 standard output, byte for byte, what independent.py works out from document 01's text, and
 end with status 0. The inputs:
-    named      sheet A, no bytes, more bytes than a sheet can have, and the longest sheets
+    named      sheet A, no bytes, more bytes than a sheet can have, the longest sheets, two at
+               number 9's limit, and every input that cases.py reads
     sheets     every file of the folder `sheets` beside `tests`, but for those ending in .md
     accepted   150 random sheets that the program's lent memory has room for: speeds with
                gaps, energies in any order and often equal, T from 1 to the longest there is
@@ -24,6 +25,7 @@ from dataclasses import replace
 from pathlib import Path
 
 sys.dont_write_bytecode = True  # no folder of compiled files beside the tests
+from cases import READ
 from independent import (
     PROGRAM_SHEET_BYTES, PROGRAM_VALUES, SHEET_A, Sheet, count_queues, memory_fields,
     number_bytes, program, refuse_sheet, sheet_bytes,
@@ -214,6 +216,11 @@ def longest_sheet(horizon):
     return Sheet(3, speeds, horizon, ((255, 255, 3),) * 32)
 
 
+def eighth_powers(energy):
+    """One of the few sheets at the limit of number 9."""
+    return Sheet(1, ((0, 0), (1, energy)), 16, ((8, 0, 1),))
+
+
 def named_inputs():
     whole = sheet_bytes(SHEET_A)
     return [
@@ -223,6 +230,9 @@ def named_inputs():
         whole.ljust(600, b"\0"),
         sheet_bytes(longest_sheet(3)),  # 200 bytes, the longest that 9 lets pass
         sheet_bytes(longest_sheet(200)),  # 201 bytes, the longest that 4 to 8 let pass
+        sheet_bytes(eighth_powers(2_047)),  # below 2^63, by one part in 2,048
+        sheet_bytes(eighth_powers(2_048)),  # 16 times 2,048 times 8 to the power 16 is 2^63
+        *(bytes.fromhex(text) for _, text in READ),
     ]
 
 

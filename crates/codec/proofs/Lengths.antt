@@ -51,7 +51,7 @@ speed-length one d e = omega (arith, length-append (code (one .speed)) (code (on
 pub speeds-upto : (s : Counted) (n : ℕ) → length (speedBytes s n) ≤ n * 6
 unfolding speedBytes
 speeds-upto s n =
-    turn-times _ n 6 (λ j. omega (arith, speed-length (getD (s .speeds) j zeroSpeed) refl refl, code-upto (speedAt s j) refl, code-upto (energyAt s j) refl))
+    turn-times _ n 6 (λ j h. omega (arith, speed-length (getD (s .speeds) j zeroSpeed) refl refl, code-upto (speedAt s j) refl, code-upto (energyAt s j) refl))
 
 -- three bytes at most for each number, in a sheet whose fields are in range
 pub speed-short : (s : Counted) → fieldsRefusal s ≡ 0 → (j : ℕ) → j < s .speedCount → SpeedShort (getD (s .speeds) j zeroSpeed)
@@ -76,7 +76,7 @@ pub jobs-upto : (s : Counted) (n : ℕ) → length (jobBytes s n) ≤ n * 9
 unfolding jobBytes
 jobs-upto s n =
     turn-times _ n 9
-    (λ i. omega (
+    (λ i h. omega (
       arith,
       job-length (getD (s .jobs) i zeroJob) refl refl refl,
       code-upto (weightAt s i) refl,

@@ -143,7 +143,7 @@ list-is {sheet = sheet} {least = least} {bytes = bytes} {before = before} {answe
     let left = now (call .at-exit .1 .1 .1 .0) in
     let of-sheet = subst (λ (s : Sheet). promised s (call .lent .1 .0) plan lent left) (call .sheet-listed) (call .contract) in
     let of-least = subst (λ (v : ℕ). promised sheet v plan lent left) (call .least-is) of-sheet in
-    let of-plan = subst (λ (l : List ℕ). promised sheet least l lent left) (call .plan-lent) of-least in
+    let of-plan = subst (λ (l : List ℕ). promised sheet least l lent left) (call .plan-listed) of-least in
     let of-buffer = subst (λ (l : List ℕ). promised sheet least bytes l left) (call .before-is) of-plan in
     subst (λ (l : List ℕ). promised sheet least bytes before l) (call .after-is) of-buffer
 

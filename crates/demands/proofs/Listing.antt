@@ -1,19 +1,23 @@
 -- The listing of what `plan` left, over both calls' contracts: it is refused exactly where its buffer is too short, and it is 01's listing
 -- of the plan's bytes, about which demand 2 is, under the empty queue's value at slot 0.
-use Prim.Native.Nat.{ℕ, _≤_}
-use mathlib.Core.Path.{_≡_, sym, ap, subst, _∙_}
+use Prim.Native.Nat.{ℕ, _+_, _*_, _^_, _≤_, _<_}
+use mathlib.Core.Path.{_≡_, sym, subst, _∙_}
 use mathlib.Core.List.{List, _++_}
 use mathlib.Core.Option.{Option, none, some, Option·getD}
+use native.Mathlib.Nat.{le-trans}
 use native.Mathlib.Omega.{arith}
 use lib.ListN.{length, drop}
+use Rattle.model.specs.Bytes.{AreBytes}
 use Rattle.model.specs.Counted.{Counted, counted}
 use Rattle.model.specs.Listing.{listing, listRefusal, list}
 use Rattle.model.specs.Plan.{IsValueAt, number12, FromEmpty, rowRefusal}
 use Rattle.model.specs.Plan as model-plan
 use Rattle.model.specs.Queue.{emptyQueue}
+use Rattle.model.specs.Refusal.{N}
 use Rattle.model.specs.declared.Sheet.{Sheet}
 use Rattle.model.proofs.Listing.{list-number, list-fits}
 use Rattle.model.proofs.Rooms.{plan-accepted, row-fits}
+use Rattle.listing.proofs.Within.{listing-upto}
 use Rattle.listing.specs.declared.call.Listed.{Listed}
 use Rattle.planner.specs.declared.calls.PlanAnswer.{PlanAnswer}
 use Rattle.demands.specs.Calls.{Plans, Lists}
@@ -42,6 +46,14 @@ module _ {sheet : Sheet} {values₀ plan₀ values bytes : List ℕ} {p : PlanAn
       let kept = planned-filled planned accepted .plan-length in
       let row : rowRefusal s (length bytes) ≡ 0 = sym (row-fits s (length bytes) (tested .0) (omega (arith, tested .2, kept))) in
       list-is call .number-is ∙ list-number s (p .least) bytes before ∙ list-fits s (p .least) bytes (length before) row room
+
+  -- so 66 bytes, and for each slot five and four for each queue, are always enough
+  pub listing-enough : p .least < 2 ^ 64 → AreBytes bytes →
+      66 + counted sheet .horizon * (5 + 4 * N (counted sheet)) ≤ length before → a .number ≡ 0
+  listing-enough least-fits are-bytes room =
+      let s = counted sheet in
+      let tested = plan-accepted s (length values₀) (length plan₀) (planned-by-number planned done) in
+      listing-done (le-trans (listing-upto s (p .least) bytes (tested .0) least-fits are-bytes) room)
 
   -- and then it is the listing of these bytes, headed by the value of the empty queue at slot 0, and what stood behind it stands there
   pub listing-right : a .number ≡ 0 →

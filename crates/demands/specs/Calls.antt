@@ -87,7 +87,7 @@ pub record Lists (sheet : Sheet) (least : ℕ) (bytes before : List ℕ) (answer
   pub at-exit : AtExit (endedOf 2 list-kinds.ps list-kinds.r) lifetimes
   pub sheet-listed : lent .0 ≡ sheet
   pub least-is : lent .1 .0 ≡ least
-  pub plan-lent : now (lent .1 .1 .0) ≡ bytes
+  pub plan-listed : now (lent .1 .1 .0) ≡ bytes
   pub before-is : now (lent .1 .1 .1 .0) ≡ before
   pub after-is : now (at-exit .1 .1 .1 .0) ≡ after
   pub contract : list.Post lifetimes lent answer at-exit

@@ -1,8 +1,10 @@
--- A number in decimal, one digit at a time, the last put last: what each step of `length_in` and of `put_in` knows.
+-- A number in decimal, one digit at a time, the last put last: what each step of `length_in` and of `put_in` knows, and how many digits
+-- there are at most.
 use Prim.Native.Nat.{ℕ, zero, suc, _+_, _-_, _^_, _/_, _%_, _≤_, _<_}
 use mathlib.Core.Path.{_≡_, ap}
 use mathlib.Core.List.{List, [], _∷_, _++_}
-use native.Mathlib.Nat.{not-suc-le-zero}
+use mathlib.Core.Logic.{⊎-elim}
+use native.Mathlib.Nat.{not-suc-le-zero, zero-lt-suc, eq-zero-or-pos}
 use native.Mathlib.Omega.{arith}
 use lib.ListN.{length, set, length-append}
 use Rattle.model.proofs.Listing.{digits-last, digits-more, tenth-short}
@@ -36,6 +38,19 @@ others-short (suc zero) x h k = absurd (omega arith)
 others-short (suc (suc n)) x h k =
     let less : suc (suc n) - 1 ≡ suc n = omega arith in
     (omega arith, rw less (tenth-short (suc n) x k))
+
+-- a number below 10^k has at most k digits
+pub digits-upto : (n k x : ℕ) → 1 ≤ k → x < 10 ^ k → length (digitsIn n x) ≤ k
+unfolding digitsIn
+digits-upto zero k x room h = omega arith
+digits-upto (suc n) k x room h =
+    ⊎-elim (λ e. omega (arith, single-length (suc n) x (zero-lt-suc n) (omega arith)))
+    (λ l.
+    let ten : 10 ≤ x = omega arith in
+    let short = others-short k x ten h in
+    let less : suc n - 1 ≡ n = omega arith in
+    omega (arith, rw less at (several-length (suc n) x (zero-lt-suc n) ten), digits-upto n (k - 1) (x / 10) (short .0) (short .1)))
+    (eq-zero-or-pos (x / 10))
 
 -- what `put_in` asks
 abbrev Asked : ℕ → ℕ → ℕ → List ℕ → Type 0

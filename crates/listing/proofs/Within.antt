@@ -1,5 +1,6 @@
--- The length that a listing reports is one of the lent buffer: a caller may take that part of it.
-use Prim.Native.Nat.{ℕ, zero, suc, _≤_}
+-- The length that a listing reports is one of the lent buffer: a caller may take that part of it. And how long a listing is at most: a
+-- caller may lend a buffer that is never too short.
+use Prim.Native.Nat.{ℕ, zero, suc, _+_, _*_, _^_, _≤_, _<_}
 use mathlib.Core.Path.{_≡_, refl}
 use mathlib.Core.Bool.{_&&_}
 use mathlib.Core.List.{List}
@@ -7,14 +8,19 @@ use native.Mathlib.Nat.{suc-ne-zero}
 use native.Mathlib.Omega.{arith}
 use borrow.Author.Tests.{ne-eqb}
 use lib.Dec.{leb, leb→le}
-use lib.ListN.{length}
-use Rattle.model.specs.Bytes.{written}
+use lib.ListN.{length, length-append}
+use Rattle.model.specs.Bytes.{AreBytes, written}
 use Rattle.model.specs.Counted.{Counted}
-use Rattle.model.specs.Listing.{listing, listRefusal, list}
+use Rattle.model.specs.Listing.{scaleOf, header, bytesListed, slotLine, listing, listRefusal, list}
 use Rattle.model.specs.Plan.{planNeeded}
-use Rattle.model.specs.Refusal.{sheetRefusal}
-use Rattle.model.proofs.Tests.{and-right, check-zero, then-right}
+use Rattle.model.specs.Refusal.{sheetRefusal, N}
+use Rattle.model.proofs.Refusal.{accepted}
+use Rattle.model.proofs.Tests.{and-right, check-zero, then-right, turn-times}
 use Rattle.listing.specs.Calls.{IsListed}
+use Rattle.listing.specs.Lines.{bytesFrom, lineAt}
+use Rattle.listing.proofs.Digits.{digits-upto}
+use Rattle.listing.proofs.Heads.{header-length, power-fits}
+use Rattle.listing.proofs.Rows.{line-length}
 
 -- what is not refused fits
 fits : (s : Counted) (least : ℕ) (plan : List ℕ) (room : ℕ) → listRefusal s least plan room ≡ 0 → length (listing s least plan) ≤ room
@@ -36,3 +42,36 @@ unfolding list
 listed-within s least plan before call =
     rw (call .written-is)
     (within (listRefusal s least plan (length before)) (listing s least plan) before (fits s least plan (length before)))
+
+-- plan bytes: each has a space and at most three digits
+bytes-upto : (plan : List ℕ) (first queues : ℕ) → AreBytes plan → length (bytesListed (bytesFrom plan first) queues) ≤ queues * 4
+unfolding bytesListed
+bytes-upto plan first queues are =
+    turn-times _ queues 4 (λ i l. omega (arith, digits-upto 20 3 (bytesFrom plan first i) (omega arith) (omega (arith, are (first + i)))))
+
+-- a line: its slot has at most three digits, and two characters stand beside them and the plan bytes
+line-upto : (plan : List ℕ) (queues slot : ℕ) → AreBytes plan → slot < 200 → length (lineAt plan queues slot) ≤ 5 + 4 * queues
+line-upto plan queues slot are h =
+    omega (
+      arith,
+      line-length plan queues slot {first = slot * queues} (omega arith) refl refl,
+      digits-upto 20 3 slot (omega arith) (omega arith),
+      bytes-upto plan (slot * queues) queues are,
+    )
+
+-- the header: of its numbers the first has at most 5 digits, the second 19, the third 20
+header-upto : (s : Counted) (least : ℕ) → sheetRefusal s ≡ 0 → least < 2 ^ 64 → length (header (N s) (scaleOf s) least) ≤ 66
+header-upto s least e h =
+    let queues = digits-upto 20 5 (N s) (omega arith) (omega (arith, accepted s e .queues-high)) in
+    let scale = digits-upto 20 19 (scaleOf s) (omega arith) (omega (arith, power-fits s e (s .horizon) (omega arith))) in
+    let energy = digits-upto 20 20 least (omega arith) (omega arith) in
+    omega (arith, header-length (N s) (scaleOf s) least refl refl refl, queues, scale, energy)
+
+-- how long a listing is at most: 66 bytes for the header; for each slot four for each queue, and five
+pub listing-upto : (s : Counted) (least : ℕ) (plan : List ℕ) → sheetRefusal s ≡ 0 → least < 2 ^ 64 → AreBytes plan →
+    length (listing s least plan) ≤ 66 + s .horizon * (5 + 4 * N s)
+unfolding listing
+listing-upto s least plan e h are =
+    let slots = accepted s e .ranged .horizon-high in
+    let lines = turn-times (slotLine s plan) (s .horizon) (5 + 4 * N s) (λ t l. line-upto plan (N s) t are (omega (arith, slots))) in
+    simp length-append (omega (arith, header-upto s least e h, lines))

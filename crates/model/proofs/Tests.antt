@@ -320,7 +320,8 @@ turn-upto f j (suc n) h =
     (λ l. omega (arith, turn-upto f j n (le-of-suc-le-suc l), length-append (inTurn f n) (f n))) (eq-or-lt-of-le h)
 
 -- n lists of at most b
-pub turn-times : {A : Type 0} (f : ℕ → List A) (n b : ℕ) → ((j : ℕ) → length (f j) ≤ b) → length (inTurn f n) ≤ n * b
+pub turn-times : {A : Type 0} (f : ℕ → List A) (n b : ℕ) → ((j : ℕ) → j < n → length (f j) ≤ b) → length (inTurn f n) ≤ n * b
 unfolding inTurn
 turn-times f zero b h = omega arith
-turn-times f (suc n) b h = omega (arith, turn-times f n b h, h n, length-append (inTurn f n) (f n), suc-mul n b)
+turn-times f (suc n) b h =
+    omega (arith, turn-times f n b (λ j l. h j (omega arith)), h n (omega arith), length-append (inTurn f n) (f n), suc-mul n b)
