@@ -93,19 +93,12 @@ pub fn one_empty(bound: u32, fast: u32) -> Sheet {
 
 // A job of 3 that is due in two slots, at a largest speed of 1: nothing can finish it.
 pub fn unfinishable() -> Sheet {
-    let mut speeds = [speed_of(0, 0); 9];
-    speeds[1] = speed_of(1, 1);
-    let mut jobs = [job_of(0, 0, 0); 32];
-    jobs[0] = job_of(1, 0, 1);
+    let mut sheet = two_speeds(2, 0, 1, 1, 1, job_of(1, 0, 1));
+    let mut jobs = sheet.jobs;
     jobs[1] = job_of(3, 3, 2);
-    Sheet {
-        bound: 2,
-        speed_count: 2,
-        speeds,
-        horizon: 1,
-        job_count: 2,
-        jobs,
-    }
+    sheet.jobs = jobs;
+    sheet.job_count = 2;
+    sheet
 }
 
 // A job of 3 in every slot, due in two, at speeds 0 and 2: an admissible speed need not begin a good way.

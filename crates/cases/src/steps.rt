@@ -205,6 +205,10 @@ fn advances(plan: &[u8]) {
         0,
         1,
     );
+}
+
+// Arrivals that are no entry of the sheet.
+fn advances_unknown(plan: &[u8]) {
     advance_case(
         b"a size that no entry has",
         sheet_a(),
@@ -231,9 +235,8 @@ fn advances(plan: &[u8]) {
     );
 }
 
-// With damaged plans, a plan that is too short, and a state that is wrong.
-fn advances_damaged(plan: &[u8]) {
-    let short = [1u8; 23];
+// With damaged plans.
+fn advances_damaged() {
     let threes = [3u8; 24];
     let zeros = [0u8; 24];
     advance_case(
@@ -268,6 +271,11 @@ fn advances_damaged(plan: &[u8]) {
         1,
         1,
     );
+}
+
+// With a plan that is too short, and from a state that is wrong.
+fn advances_refused(plan: &[u8]) {
+    let short = [1u8; 23];
     advance_case(
         b"a plan that is a byte short",
         sheet_a(),
@@ -318,6 +326,8 @@ pub fn step_cases() {
     speeds_damaged();
     speeds_of_others(&plan);
     advances(&plan);
-    advances_damaged(&plan);
+    advances_unknown(&plan);
+    advances_damaged();
+    advances_refused(&plan);
     advances_dear();
 }
