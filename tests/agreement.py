@@ -4,7 +4,7 @@
 
 runs COMMAND, with its words, once for each input and one after the other. It must write to
 standard output, byte for byte, what independent.py works out from document 01's text, and
-end with status 0. The inputs:
+end with status 0. Sheet A is also handed over in two pieces. The inputs:
     named      sheet A, no bytes, more bytes than a sheet can have, the longest sheets, two at
                number 9's limit, and every input that cases.py reads
     sheets     every file of the folder `sheets` beside `tests`, but for those ending in .md
@@ -20,12 +20,13 @@ ones no longer meet what makes the comparison worth something (`refuse_narrow`).
 import random
 import subprocess
 import sys
+import time
 from collections import Counter
 from dataclasses import replace
 from pathlib import Path
 
 sys.dont_write_bytecode = True  # no folder of compiled files beside the tests
-from cases import READ
+from cases import READ, READ_LAST
 from independent import (
     PROGRAM_SHEET_BYTES, PROGRAM_VALUES, SHEET_A, Sheet, count_queues, memory_fields,
     number_bytes, program, refuse_sheet, sheet_bytes,
@@ -232,7 +233,7 @@ def named_inputs():
         sheet_bytes(longest_sheet(200)),  # 201 bytes, the longest that 4 to 8 let pass
         sheet_bytes(eighth_powers(2_047)),  # below 2^63, by one part in 2,048
         sheet_bytes(eighth_powers(2_048)),  # 16 times 2,048 times 8 to the power 16 is 2^63
-        *(bytes.fromhex(text) for _, text in READ),
+        *(bytes.fromhex(text) for _, text in READ + READ_LAST),
     ]
 
 
@@ -273,6 +274,17 @@ def answer(command, data):
     return done.stdout, f"status {done.returncode}"
 
 
+def answer_to_pieces(command, first, second):
+    """The same where the input comes in two pieces: short reads "are repeated until the
+    buffer is full or the input ends" (open point 8)."""
+    with subprocess.Popen(command, stdin=subprocess.PIPE, stdout=subprocess.PIPE) as running:
+        running.stdin.write(first)
+        running.stdin.flush()
+        time.sleep(1)  # so that the first read ends before the second piece comes
+        given, _ = running.communicate(second, timeout=SECONDS)
+        return given, f"status {running.returncode}"
+
+
 def show(data, expected, given, end):
     print(f"input {data.hex(' ')}")
     print(f"expected, status 0:\n{expected.decode()}")
@@ -299,6 +311,11 @@ def main(command):
             differences += 1
             if differences <= MOST_SHOWN:
                 show(data, expected, given, end)
+    whole = sheet_bytes(SHEET_A)
+    given, end = answer_to_pieces(command, whole[:5], whole[5:])
+    if (given, end) != (program(whole), "status 0"):
+        differences += 1
+        show(whole, program(whole), given, f"in two pieces, {end}")
     if differences:
         sys.exit(f"{differences} of {len(inputs)} inputs differ")
     print(f"{len(inputs)} inputs agree: {summary(outputs)}")

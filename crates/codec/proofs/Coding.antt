@@ -2,10 +2,11 @@
 use Prim.Native.Nat.{ℕ, zero, suc, _+_, _-_, _^_, _%_, _/_, _≤_, _<_}
 use mathlib.Core.Path.{_≡_, ap}
 use mathlib.Core.List.{List, [], _∷_}
-use native.Mathlib.Nat.{zero-lt-suc, not-suc-le-zero, pow-suc, div-lt-iff-lt-mul}
+use native.Mathlib.Nat.{not-suc-le-zero}
 use native.Mathlib.Omega.{arith}
 use borrow.Author.Tests.{lt-ltb, le-ltb}
 use lib.ListN.{length, set, length-set}
+use Rattle.model.proofs.Codes.{rest-shorter}
 use Rattle.model.specs.Bytes.{codeIn}
 use Rattle.buffers.specs.Laid.{Laid}
 use Rattle.buffers.proofs.Laid.{laid-one, laid-then}
@@ -21,14 +22,6 @@ code-more : (most x : ℕ) → 1 ≤ most → 128 ≤ x → codeIn most x ≡ (1
 unfolding codeIn
 code-more zero x some h = absurd (not-suc-le-zero some)
 code-more (suc n) x some h = let less : suc n - 1 ≡ n = omega arith in rw (le-ltb x 128 h, less)
-
--- what is left of a number that has another group has a group, and is shorter by the one
-others-short : (most x : ℕ) → 128 ≤ x → x < 128 ^ most → (1 ≤ most - 1) × (x / 128 < 128 ^ (most - 1))
-others-short zero x h k = absurd (omega arith)
-others-short (suc zero) x h k = absurd (omega arith)
-others-short (suc (suc n)) x h k =
-    let less : suc (suc n) - 1 ≡ suc n = omega arith in
-    (omega arith, rw less (div-lt-iff-lt-mul (zero-lt-suc 127) .1 (rw pow-suc at k)))
 
 -- what `put_in` asks
 abbrev Asked : ℕ → ℕ → ℕ → List ℕ → Type 0
@@ -50,7 +43,7 @@ module _ {most x : ℕ} (at : ℕ) (buffer : List ℕ) (asked : Asked most at x 
   -- .. the others may be put behind it, whatever byte stands there
   pub more-asked : (byte : ℕ) → 128 ≤ x → Asked (most - 1) (at + 1) (x / 128) (set buffer at byte)
   more-asked byte h =
-      let short = others-short most x h (asked .1) in
+      let short = rest-shorter 128 most x (omega arith) h (asked .1) in
       (short .0, short .1, simp length-set (omega (arith, ap length (code-more most x (asked .0) h))))
 
   -- .. and its byte and then the others are the code

@@ -121,16 +121,6 @@ pub row-determined : {s t : Sheet} {bytes part part′ : List ℕ} {slot : ℕ} 
 row-determined {bytes = bytes} {slot = slot} view first second =
     row-is first ∙ ap (λ (s : Counted). row s bytes slot) view ∙ sym (row-is second)
 
--- start and advance answer alike
-
--- two answers of which the model says the same are equal
-same-stepped : {said : model-stepper.Stepped} (a b : Stepped) → IsStepped said (a .number) (a .state) → IsStepped said (b .number) (b .state) → a ≡ b
-same-stepped a b first second =
-    let given : ℕ → model-stepper.State → Stepped =
-    λ n x. record { number = n; state = record { queue = x .queue; slot = x .slot; energy = x .energy } } in
-    ap (λ (n : ℕ). given n (stateOf (a .state))) (first .number-is ∙ sym (second .number-is)) ∙
-    ap (given (b .number)) (first .state-is ∙ sym (second .state-is))
-
 -- list
 
 -- what a listing promises of this sheet, this least energy, this plan and this buffer
@@ -163,6 +153,16 @@ list-determined {least = least} {bytes = bytes} {before = before} {a = a} {b = b
           (one .written-is ∙ ap (λ (s : Counted). list s least bytes before .written) view ∙ sym (two .written-is)),
       one .buffer-is ∙ ap (λ (s : Counted). list s least bytes before .buffer) view ∙ sym (two .buffer-is),
     )
+
+-- start and advance answer alike
+
+-- two answers of which the model says the same are equal
+same-stepped : {said : model-stepper.Stepped} (a b : Stepped) → IsStepped said (a .number) (a .state) → IsStepped said (b .number) (b .state) → a ≡ b
+same-stepped a b first second =
+    let given : ℕ → model-stepper.State → Stepped =
+    λ n x. record { number = n; state = record { queue = x .queue; slot = x .slot; energy = x .energy } } in
+    ap (λ (n : ℕ). given n (stateOf (a .state))) (first .number-is ∙ sym (second .number-is)) ∙
+    ap (given (b .number)) (first .state-is ∙ sym (second .state-is))
 
 -- start
 

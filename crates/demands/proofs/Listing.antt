@@ -1,23 +1,24 @@
--- The listing of what `plan` left, over both calls' contracts: it is refused exactly where its buffer is too short, and it is 01's listing
--- of the plan's bytes, about which demand 2 is, under the empty queue's value at slot 0.
+-- The listing of what `plan` left, over both calls' contracts: it is refused exactly where its buffer is too short, its header tells the
+-- empty queue's value at slot 0, and its lines list the plan bytes that demand 2 is about.
 use Prim.Native.Nat.{ℕ, _+_, _*_, _^_, _≤_, _<_}
 use mathlib.Core.Path.{_≡_, sym, subst, _∙_}
 use mathlib.Core.List.{List, _++_}
+use mathlib.Core.Logic.{_↔_}
 use mathlib.Core.Option.{Option, none, some, Option·getD}
 use native.Mathlib.Nat.{le-trans}
 use native.Mathlib.Omega.{arith}
-use lib.ListN.{length, drop}
+use lib.ListN.{length, getD, drop}
 use Rattle.model.specs.Bytes.{AreBytes}
 use Rattle.model.specs.Counted.{Counted, counted}
 use Rattle.model.specs.Listing.{listing, listRefusal, list}
-use Rattle.model.specs.Plan.{IsValueAt, number12, FromEmpty, rowRefusal}
+use Rattle.model.specs.Plan.{IsValueAt, valueIn, placeAt, number12, Decided, FromEmpty, rowRefusal}
 use Rattle.model.specs.Plan as model-plan
 use Rattle.model.specs.Queue.{emptyQueue}
 use Rattle.model.specs.Refusal.{N}
 use Rattle.model.specs.declared.Sheet.{Sheet}
 use Rattle.model.proofs.Listing.{list-number, list-fits}
 use Rattle.model.proofs.Rooms.{plan-accepted, row-fits}
-use Rattle.listing.proofs.Within.{listing-upto}
+use Rattle.listing.proofs.Within.{listing-fits, listing-upto}
 use Rattle.listing.specs.declared.call.Listed.{Listed}
 use Rattle.planner.specs.declared.calls.PlanAnswer.{PlanAnswer}
 use Rattle.demands.specs.Calls.{Plans, Lists}
@@ -37,15 +38,18 @@ least-is-value s a from-empty e = go (from-empty .r) (from-empty .is-value) (fro
 
 module _ {sheet : Sheet} {values₀ plan₀ values bytes : List ℕ} {p : PlanAnswer} (planned : Plans sheet values₀ plan₀ p values bytes)
     (done : p .number ≡ 0) {before after : List ℕ} {a : Listed} (call : Lists sheet (p .least) bytes before a after) where
-  -- where the buffer has room for the listing, it is not refused
-  pub listing-done : length (listing (counted sheet) (p .least) bytes) ≤ length before → a .number ≡ 0
-  listing-done room =
+  -- it is not refused exactly where the buffer has room for the listing
+  pub listing-done : (a .number ≡ 0) ↔ (length (listing (counted sheet) (p .least) bytes) ≤ length before)
+  listing-done =
       let s = counted sheet in
       let accepted = planned-by-number planned done in
       let tested = plan-accepted s (length values₀) (length plan₀) accepted in
       let kept = planned-filled planned accepted .plan-length in
       let row : rowRefusal s (length bytes) ≡ 0 = sym (row-fits s (length bytes) (tested .0) (omega (arith, tested .2, kept))) in
-      list-is call .number-is ∙ list-number s (p .least) bytes before ∙ list-fits s (p .least) bytes (length before) row room
+      let same = list-is call .number-is ∙ list-number s (p .least) bytes before in (
+        λ e. listing-fits s (p .least) bytes (length before) (sym same ∙ e),
+        λ room. same ∙ list-fits s (p .least) bytes (length before) row room,
+      )
 
   -- so 66 bytes, and for each slot five and four for each queue, are always enough
   pub listing-enough : p .least < 2 ^ 64 → AreBytes bytes →
@@ -53,20 +57,24 @@ module _ {sheet : Sheet} {values₀ plan₀ values bytes : List ℕ} {p : PlanAn
   listing-enough least-fits are-bytes room =
       let s = counted sheet in
       let tested = plan-accepted s (length values₀) (length plan₀) (planned-by-number planned done) in
-      listing-done (le-trans (listing-upto s (p .least) bytes (tested .0) least-fits are-bytes) room)
+      listing-done .1 (le-trans (listing-upto s (p .least) bytes (tested .0) least-fits are-bytes) room)
 
-  -- and then it is the listing of these bytes, headed by the value of the empty queue at slot 0, and what stood behind it stands there
+  -- and then it is the listing of these bytes, and what stood behind it stands there; its header tells the empty queue's value at slot 0,
+  -- and each byte that it lists is the slowest speed that begins a least way, or 255 where there is none
   pub listing-right : a .number ≡ 0 →
       let s = counted sheet in
       (a .length ≡ length (listing s (p .least) bytes)) ×
       (after ≡ listing s (p .least) bytes ++ drop (length (listing s (p .least) bytes)) before) ×
-      IsValueAt s 0 (emptyQueue (s .bound)) (some (p .least))
+      IsValueAt s 0 (emptyQueue (s .bound)) (some (p .least)) ×
+      ((t i : ℕ) → t < s .horizon → i < N s → Decided s t i (valueIn values (placeAt s t i)) (getD bytes (placeAt s t i) 0))
   unfolding list
   listing-right e =
       let s = counted sheet in
+      let accepted = planned-by-number planned done in
       let promised = list-is call in
       let none : listRefusal s (p .least) bytes (length before) ≡ 0 = sym (list-number s (p .least) bytes before) ∙ sym (promised .number-is) ∙ e in (
         promised .written-is ∙ rw none,
         promised .buffer-is ∙ rw none,
-        least-is-value s (answered p) (answer-right planned (planned-by-number planned done) .1) done,
+        least-is-value s (answered p) (answer-right planned accepted .1) done,
+        planned-filled planned accepted .rows,
       )

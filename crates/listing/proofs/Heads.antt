@@ -2,15 +2,13 @@
 use Prim.Native.Nat.{ℕ, _+_, _*_, _^_, _≤_, _<_}
 use mathlib.Core.Path.{_≡_}
 use mathlib.Core.List.{List, [], _∷_, _++_}
-use native.Mathlib.Nat.{mul-le-mul, mul-le-mul-right, pow-suc, pow-le-pow-right}
+use native.Mathlib.Nat.{pow-suc}
 use native.Mathlib.Numerals.{add-one}
 use native.Mathlib.Omega.{arith}
 use lib.ListN.{length, getD, set, take, length-append}
 use lib.Seq.{length-take-le, take-suc, take-all}
-use Rattle.model.proofs.Refusal.{accepted, G-low, W-low}
-use Rattle.model.specs.Counted.{Counted, G, W}
+use Rattle.model.specs.Counted.{W}
 use Rattle.model.specs.Listing.{decimal, header}
-use Rattle.model.specs.Refusal.{sheetRefusal, valueLimit}
 use Rattle.buffers.specs.Laid.{Laid}
 use Rattle.buffers.proofs.Laid.{laid-one, laid-then, laid-length, room-first, room-then}
 
@@ -39,13 +37,6 @@ pub text-whole : (text : List ℕ) {j at next : ℕ} {before after : List ℕ} �
 text-whole text {j = j} h laid = rw (take-all j text h) at laid
 
 -- W to the power T
-
--- no power of W up to it passes number 9's limit: T and G are 1 at least
-pub power-fits : (s : Counted) → sheetRefusal s ≡ 0 → (k : ℕ) → k ≤ s .horizon → W s ^ k ≤ valueLimit
-power-fits s e k h =
-    let a = accepted s e in
-    let factor : 1 ≤ s .horizon * G s = mul-le-mul (a .ranged .horizon-low) (G-low s) in
-    omega (arith, pow-le-pow-right (W-low s (a .ranged)) h, mul-le-mul-right (W s ^ s .horizon) factor, a .fits)
 
 -- one factor more
 pub power-next : {scale weight : ℕ} (w k : ℕ) → weight ≡ w → scale ≡ w ^ k → scale * weight ≡ w ^ (k + 1)

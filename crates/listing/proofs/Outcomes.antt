@@ -13,7 +13,7 @@ use Rattle.model.specs.Refusal.{N}
 use Rattle.buffers.proofs.Laid.{laid-written}
 use Rattle.buffers.specs.Laid.{Laid}
 use Rattle.listing.specs.Calls.{IsListed}
-use Rattle.listing.specs.Lines.{listed}
+use Rattle.listing.specs.Lines.{wholeListing}
 
 module _ (s : Counted) (least : ℕ) (plan : List ℕ) where
   -- a refusal touches nothing and has the length 0
@@ -30,19 +30,19 @@ module _ (s : Counted) (least : ℕ) (plan : List ℕ) where
 
   module _ {queues scale : ℕ} (accepted : rowRefusal s (length plan) ≡ 0) (queues-are : queues ≡ N s) (scale-is : scale ≡ scaleOf s) where
     -- what the code puts is the listing
-    whole : listed queues scale least plan (s .horizon) ≡ listing s least plan
+    whole : wholeListing queues scale least plan (s .horizon) ≡ listing s least plan
     unfolding listing
     whole = rw (queues-are, scale-is)
 
     -- the buffer is too short
-    pub listing-short : (buffer : List ℕ) → length buffer < length (listed queues scale least plan (s .horizon)) →
+    pub listing-short : (buffer : List ℕ) → length buffer < length (wholeListing queues scale least plan (s .horizon)) →
         IsListed s least plan buffer 11 0 buffer
     listing-short buffer short =
         refused-with buffer 11 (list-short s least plan (length buffer) accepted (rw whole at short)) (eqb-false 11 0 refl)
 
     -- nothing is refused: the listing, laid from the first place on, is what is written
-    pub listing-done : {before after : List ℕ} {next : ℕ} → length (listed queues scale least plan (s .horizon)) ≤ length before →
-        Laid 0 (listed queues scale least plan (s .horizon)) before after next → IsListed s least plan before 0 next after
+    pub listing-done : {before after : List ℕ} {next : ℕ} → length (wholeListing queues scale least plan (s .horizon)) ≤ length before →
+        Laid 0 (wholeListing queues scale least plan (s .horizon)) before after next → IsListed s least plan before 0 next after
     unfolding list
     listing-done {before = before} room laid =
         laid-written (listRefusal s least plan (length before)) (list-fits s least plan (length before) accepted (rw whole at room))

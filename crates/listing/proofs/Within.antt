@@ -11,21 +11,21 @@ use lib.Dec.{leb, leb→le}
 use lib.ListN.{length, length-append}
 use Rattle.model.specs.Bytes.{AreBytes, written}
 use Rattle.model.specs.Counted.{Counted}
-use Rattle.model.specs.Listing.{scaleOf, header, bytesListed, slotLine, listing, listRefusal, list}
+use Rattle.model.specs.Listing.{scaleOf, header, bytesListed, lineOfSlot, listing, listRefusal, list}
 use Rattle.model.specs.Plan.{planNeeded}
 use Rattle.model.specs.Refusal.{sheetRefusal, N}
-use Rattle.model.proofs.Refusal.{accepted}
+use Rattle.model.proofs.Refusal.{accepted, power-fits}
 use Rattle.model.proofs.Tests.{and-right, check-zero, then-right, turn-times}
 use Rattle.listing.specs.Calls.{IsListed}
 use Rattle.listing.specs.Lines.{bytesFrom, lineAt}
 use Rattle.listing.proofs.Digits.{digits-upto}
-use Rattle.listing.proofs.Heads.{header-length, power-fits}
+use Rattle.listing.proofs.Heads.{header-length}
 use Rattle.listing.proofs.Rows.{line-length}
 
 -- what is not refused fits
-fits : (s : Counted) (least : ℕ) (plan : List ℕ) (room : ℕ) → listRefusal s least plan room ≡ 0 → length (listing s least plan) ≤ room
+pub listing-fits : (s : Counted) (least : ℕ) (plan : List ℕ) (room : ℕ) → listRefusal s least plan room ≡ 0 → length (listing s least plan) ≤ room
 unfolding listRefusal
-fits s least plan room e =
+listing-fits s least plan room e =
     let enough = leb (planNeeded s) (length plan) in
     let fitting = leb (length (listing s least plan)) room in
     leb→le (length (listing s least plan)) room
@@ -41,7 +41,7 @@ pub listed-within : (s : Counted) (least : ℕ) (plan before : List ℕ) {number
 unfolding list
 listed-within s least plan before call =
     rw (call .written-is)
-    (within (listRefusal s least plan (length before)) (listing s least plan) before (fits s least plan (length before)))
+    (within (listRefusal s least plan (length before)) (listing s least plan) before (listing-fits s least plan (length before)))
 
 -- plan bytes: each has a space and at most three digits
 bytes-upto : (plan : List ℕ) (first queues : ℕ) → AreBytes plan → length (bytesListed (bytesFrom plan first) queues) ≤ queues * 4
@@ -63,7 +63,7 @@ line-upto plan queues slot are h =
 header-upto : (s : Counted) (least : ℕ) → sheetRefusal s ≡ 0 → least < 2 ^ 64 → length (header (N s) (scaleOf s) least) ≤ 66
 header-upto s least e h =
     let queues = digits-upto 20 5 (N s) (omega arith) (omega (arith, accepted s e .queues-high)) in
-    let scale = digits-upto 20 19 (scaleOf s) (omega arith) (omega (arith, power-fits s e (s .horizon) (omega arith))) in
+    let scale = digits-upto 20 19 (scaleOf s) (omega arith) (omega (arith, power-fits s (accepted s e) (s .horizon) (omega arith))) in
     let energy = digits-upto 20 20 least (omega arith) (omega arith) in
     omega (arith, header-length (N s) (scaleOf s) least refl refl refl, queues, scale, energy)
 
@@ -73,5 +73,5 @@ pub listing-upto : (s : Counted) (least : ℕ) (plan : List ℕ) → sheetRefusa
 unfolding listing
 listing-upto s least plan e h are =
     let slots = accepted s e .ranged .horizon-high in
-    let lines = turn-times (slotLine s plan) (s .horizon) (5 + 4 * N s) (λ t l. line-upto plan (N s) t are (omega (arith, slots))) in
+    let lines = turn-times (lineOfSlot s plan) (s .horizon) (5 + 4 * N s) (λ t l. line-upto plan (N s) t are (omega (arith, slots))) in
     simp length-append (omega (arith, header-upto s least e h, lines))

@@ -21,8 +21,8 @@ abbrev pub linesTo : List ℕ → (queues slots : ℕ) → List ℕ
 linesTo plan queues slots = inTurn (lineAt plan queues) slots
 
 -- the header and all the lines
-abbrev pub listed : (queues scale least : ℕ) → (plan : List ℕ) → (slots : ℕ) → List ℕ
-listed queues scale least plan slots = header queues scale least ++ linesTo plan queues slots
+abbrev pub wholeListing : (queues scale least : ℕ) → (plan : List ℕ) → (slots : ℕ) → List ℕ
+wholeListing queues scale least plan slots = header queues scale least ++ linesTo plan queues slots
 
 -- what the parts ask for: as many slots and queues as an accepted sheet has, and a plan with all its rows
 pub record HasRows (plan : List ℕ) (queues slots : ℕ) : Type 0 where

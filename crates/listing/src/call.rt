@@ -15,7 +15,7 @@ ghost use lib.ListN.{length};
 ghost use Rattle.model.specs.Counted.{counted};
 ghost use Rattle.buffers.specs.Laid.{Laid};
 ghost use Rattle.listing.specs.Calls.{IsListed};
-ghost use Rattle.listing.specs.Lines.{HasRows, listed};
+ghost use Rattle.listing.specs.Lines.{HasRows, wholeListing};
 
 // The number 0 with how many bytes were written, or a refusal's number with 0.
 pub struct Listed {
@@ -26,7 +26,7 @@ pub struct Listed {
 // How many bytes the whole listing takes.
 fn listing_length(head: Header, plan: &[u8], slots: u32) -> usize
     requires { ⌜ HasRows (now plan) (head .queues) slots ⌝ }
-    ensures { λ r. ⌜ r ≡ length (listed (head .queues) (head .scale) (head .least) (now (plan .entry)) slots) ⌝ }
+    ensures { λ r. ⌜ r ≡ length (wholeListing (head .queues) (head .scale) (head .least) (now (plan .entry)) slots) ⌝ }
 {
     header_length(head) + lines_length(plan, head.queues, slots)
 }
@@ -34,8 +34,8 @@ fn listing_length(head: Header, plan: &[u8], slots: u32) -> usize
 // Puts the whole listing.
 fn put_listing(buffer: &mut [u8], head: Header, plan: &[u8], slots: u32) -> usize
     requires { ⌜ HasRows (now plan) (head .queues) slots ×
-        (length (listed (head .queues) (head .scale) (head .least) (now plan) slots) ≤ length (now buffer)) ⌝ }
-    ensures { λ r. ⌜ Laid 0 (listed (head .queues) (head .scale) (head .least) (now (plan .entry)) slots)
+        (length (wholeListing (head .queues) (head .scale) (head .least) (now plan) slots) ≤ length (now buffer)) ⌝ }
+    ensures { λ r. ⌜ Laid 0 (wholeListing (head .queues) (head .scale) (head .least) (now (plan .entry)) slots)
         (now (buffer .entry)) (now (buffer .exit)) r ⌝ }
 {
     let at_lines = put_header(buffer, head);

@@ -1,4 +1,4 @@
-// A number in decimal and a text: how long they are, and both put at a place of a lent buffer.
+// A number in decimal, how long it is, and a text: both are put at a place of a lent buffer.
 ghost use mathlib.Core.Path.{_≡_};
 ghost use Prim.Native.Nat.{_+_, _^_, _≤_, _<_};
 ghost use lib.ListN.{length};

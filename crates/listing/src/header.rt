@@ -34,7 +34,7 @@ pub fn scale_of(sheet: Sheet) -> u64
     scale
 }
 
-// How many bytes the header has: 22 beside the three numbers.
+// How many bytes the header has: 22 beside the three numbers, each of which has at most 20 digits.
 pub fn header_length(head: Header) -> usize
     ensures { λ r. ⌜ (r ≡ length (header (head .queues) (head .scale) (head .least))) × (r ≤ 82) ⌝ }
 {
@@ -50,10 +50,10 @@ pub fn put_header(buffer: &mut [u8], head: Header) -> usize
     ensures { λ r. ⌜ Laid 0 (header (head .queues) (head .scale) (head .least)) (now (buffer .entry)) (now (buffer .exit)) r ⌝ }
 {
     let at_queues = put_text(buffer, 0, b"queues ");
-    let at_scale = put_decimal(buffer, at_queues, head.queues as u64);
-    let scale = put_text(buffer, at_scale, b" scale ");
-    let at_least = put_decimal(buffer, scale, head.scale);
-    let least = put_text(buffer, at_least, b" least ");
-    let at_end = put_decimal(buffer, least, head.least);
+    let after_queues = put_decimal(buffer, at_queues, head.queues as u64);
+    let at_scale = put_text(buffer, after_queues, b" scale ");
+    let after_scale = put_decimal(buffer, at_scale, head.scale);
+    let at_least = put_text(buffer, after_scale, b" least ");
+    let at_end = put_decimal(buffer, at_least, head.least);
     put_text(buffer, at_end, b"\n")
 }

@@ -10,14 +10,14 @@ ghost use Rattle.model.specs.Listing.{bytesListed};
 ghost use Rattle.buffers.specs.Laid.{Laid};
 ghost use Rattle.listing.specs.Lines.{byteListed, bytesFrom, lineAt, linesTo, HasRows};
 
-// How many bytes a plan byte takes, with the space before it.
+// How many bytes a plan byte takes, with the space before it: at most 1 and the 20 digits that a number can have.
 fn byte_length(byte: u8) -> usize
     ensures { λ r. ⌜ (r ≡ length (byteListed byte)) × (r ≤ 21) ⌝ }
 {
     1 + decimal_length(byte as u64)
 }
 
-// How many the plan bytes of so many queues take, from a place of the plan on.
+// How many bytes the plan bytes of so many queues take, from a place of the plan on.
 fn bytes_length(plan: &[u8], first: usize, queues: usize) -> usize
     requires { ⌜ (queues ≤ 65535) × (first + queues ≤ length (now plan)) ⌝ }
     ensures { λ r. ⌜ (r ≡ length (bytesListed (bytesFrom (now (plan .entry)) first) queues)) × (r ≤ 21 * queues) ⌝ }
@@ -31,7 +31,8 @@ fn bytes_length(plan: &[u8], first: usize, queues: usize) -> usize
     all
 }
 
-// How many the line of a slot takes: a colon and a line feed beside the slot and the plan bytes.
+// How many bytes the line of a slot takes: a colon and a line feed beside the slot and the plan bytes. So it takes at most 22 and 21 for
+// each of 65,535 queues.
 fn line_length(plan: &[u8], queues: usize, slot: u32) -> usize
     requires { ⌜ (queues ≤ 65535) × (slot ≤ 200) × (slot * queues + queues ≤ length (now plan)) ⌝ }
     ensures { λ r. ⌜ (r ≡ length (lineAt (now (plan .entry)) queues slot)) × (r ≤ 1376257) ⌝ }
@@ -42,7 +43,7 @@ fn line_length(plan: &[u8], queues: usize, slot: u32) -> usize
     slot_length + bytes + 2
 }
 
-// How many the lines of the first so many slots take.
+// How many bytes the lines of the first so many slots take.
 pub fn lines_length(plan: &[u8], queues: usize, slots: u32) -> usize
     requires { ⌜ HasRows (now plan) queues slots ⌝ }
     ensures { λ r. ⌜ (r ≡ length (linesTo (now (plan .entry)) queues slots)) × (r ≤ slots * 1376257) ⌝ }

@@ -15,6 +15,18 @@ use Rattle.model.specs.Reading.{Answer, value, refused, joined, numberIn
 use Rattle.model.proofs.Readers.{refused-no-value}
 use Rattle.model.proofs.Tests.{same-test}
 
+-- a number in groups, of any base: what is left without its last group takes one group less
+pub rest-short : (base n x : ℕ) → 0 < base → x < base ^ suc n → x / base < base ^ n
+rest-short base n x some h = div-lt-iff-lt-mul some .1 (rw pow-suc at h)
+
+-- and where there is another group, there is room for one
+pub rest-shorter : (base most x : ℕ) → 1 < base → base ≤ x → x < base ^ most → (1 ≤ most - 1) × (x / base < base ^ (most - 1))
+rest-shorter base zero x two h k = absurd (omega (arith, rw pow-zero at k))
+rest-shorter base (suc zero) x two h k = absurd (omega (arith, rw (pow-suc, pow-zero) at k))
+rest-shorter base (suc (suc n)) x two h k =
+    let less : suc (suc n) - 1 ≡ suc n = omega arith in
+    (omega arith, rw less (rest-short base (suc n) x (omega arith) k))
+
 -- from a code to its reading
 
 -- a number that n bytes can hold, and of which some byte is left, is read where its code stands

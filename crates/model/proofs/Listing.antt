@@ -4,7 +4,7 @@ use Prim.Native.Nat.{ℕ, zero, suc, _+_, _*_, _-_, _^_, _/_, _%_, _≤_, _<_}
 use mathlib.Core.Path.{_≡_, refl, sym, _∙_}
 use mathlib.Core.Bool.{Bool, true, false, _&&_}
 use mathlib.Core.List.{List, [], _∷_, _++_}
-use native.Mathlib.Nat.{zero-lt-suc, not-suc-le-zero, pow-suc, div-lt-iff-lt-mul, suc-ne-zero}
+use native.Mathlib.Nat.{not-suc-le-zero, suc-ne-zero}
 use native.Mathlib.Omega.{arith}
 use borrow.Author.Tests.{lt-ltb, le-ltb, ltb-true, ltb-false, lt-leb, le-leb}
 use lib.Dec.{leb, ltb}
@@ -14,6 +14,7 @@ use Rattle.model.specs.Listing.{digit, digitsIn, decimal, listing, listR
 use Rattle.model.specs.Plan.{planNeeded, rowRefusal}
 use Rattle.model.specs.Refusal.{sheetRefusal}
 use Rattle.model.specs.Tests.{check, _then_}
+use Rattle.model.proofs.Codes.{rest-short}
 use Rattle.model.proofs.Tests.{check-true, check-false}
 use Rattle.model.proofs.Written.{written-number}
 
@@ -27,15 +28,21 @@ said-more : (so : ℕ) (l : List ℕ) (c : ℕ) → said so (l ++ c ∷ []) ≡ 
 said-more so [] c = refl
 said-more so (b ∷ l) c = said-more (10 * so + (b - digit 0)) l c
 
+-- one less than one more
+suc-less : (n : ℕ) → suc n - 1 ≡ n
+suc-less n = omega arith
+
 -- a number below 10 is its own digit
-pub digits-last : (n x : ℕ) → x < 10 → digitsIn (suc n) x ≡ digit x ∷ []
+pub digits-last : (most x : ℕ) → 1 ≤ most → x < 10 → digitsIn most x ≡ digit x ∷ []
 unfolding digitsIn
-digits-last n x h = rw (lt-ltb x 10 h)
+digits-last zero x room h = absurd (not-suc-le-zero room)
+digits-last (suc n) x room h = rw (lt-ltb x 10 h)
 
 -- a greater one has the digits of its tenth, and then its last
-pub digits-more : (n x : ℕ) → 10 ≤ x → digitsIn (suc n) x ≡ digitsIn n (x / 10) ++ digit (x % 10) ∷ []
+pub digits-more : (most x : ℕ) → 1 ≤ most → 10 ≤ x → digitsIn most x ≡ digitsIn (most - 1) (x / 10) ++ digit (x % 10) ∷ []
 unfolding digitsIn
-digits-more n x h = rw (le-ltb x 10 h)
+digits-more zero x room h = absurd (not-suc-le-zero room)
+digits-more (suc n) x room h = rw (le-ltb x 10 h, suc-less n)
 
 -- one or the other
 below-or : (x : ℕ) {A : Type 0} → (x < 10 → A) → (10 ≤ x → A) → A
@@ -45,18 +52,14 @@ below-or x {A = A} low high = go (ltb x 10) refl
     go true e = low (ltb-true x 10 e)
     go false e = high (ltb-false x 10 e)
 
--- what is left without the last digit is shorter by one
-pub tenth-short : (n x : ℕ) → x < 10 ^ suc n → x / 10 < 10 ^ n
-tenth-short n x h = div-lt-iff-lt-mul (zero-lt-suc 9) .1 (rw pow-suc at h)
-
 -- the digits of a number say it
 pub digits-say : (n x : ℕ) → x < 10 ^ n → said 0 (digitsIn n x) ≡ x
 unfolding digitsIn
 digits-say zero x h = let none : x ≡ 0 = omega arith in sym none
 digits-say (suc n) x h =
-    below-or x (λ l. rw (digits-last n x l) (omega arith))
-    (λ l. rw (digits-more n x l) (
-    said-more 0 (digitsIn n (x / 10)) (digit (x % 10)) ∙ omega (arith, digits-say n (x / 10) (tenth-short n x h))
+    below-or x (λ l. rw (digits-last (suc n) x (omega arith) l) (omega arith))
+    (λ l. rw (digits-more (suc n) x (omega arith) l, suc-less n) (
+    said-more 0 (digitsIn n (x / 10)) (digit (x % 10)) ∙ omega (arith, digits-say n (x / 10) (rest-short 10 n x (omega arith) h))
     ))
 
 -- the first character of a list that goes on
@@ -68,10 +71,10 @@ first-kept (b ∷ l) c h = refl
 pub digits-first : (n x : ℕ) → 0 < x → x < 10 ^ n → digit 0 < getD (digitsIn n x) 0 0
 digits-first zero x some h = absurd (omega arith)
 digits-first (suc n) x some h =
-    below-or x (λ l. rw (digits-last n x l) (omega arith))
+    below-or x (λ l. rw (digits-last (suc n) x (omega arith) l) (omega arith))
     (λ l.
-    let first = digits-first n (x / 10) (omega arith) (tenth-short n x h) in
-    rw (digits-more n x l, first-kept (digitsIn n (x / 10)) (digit (x % 10)) (omega (arith, first))) first)
+    let first = digits-first n (x / 10) (omega arith) (rest-short 10 n x (omega arith) h) in
+    rw (digits-more (suc n) x (omega arith) l, suc-less n, first-kept (digitsIn n (x / 10)) (digit (x % 10)) (omega (arith, first))) first)
 
 -- so of every number of 64 bits and more: the digits of 01's listing say it, and no zero stands before them
 pub decimal-says : (x : ℕ) → x < 10 ^ 20 → said 0 (decimal x) ≡ x

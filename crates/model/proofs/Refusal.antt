@@ -4,7 +4,7 @@ use Prim.Native.Nat.{ℕ, zero, suc, pred, _*_, _^_, _≤_, _<_, zero-le}
 use mathlib.Core.Path.{_≡_, refl, sym, ap}
 use mathlib.Core.Bool.{Bool, true, false, cond, _&&_}
 use mathlib.Core.Logic.{_⊎_, inl, inr}
-use native.Mathlib.Nat.{eq-or-lt-of-le}
+use native.Mathlib.Nat.{eq-or-lt-of-le, mul-le-mul, mul-le-mul-right, pow-le-pow-right}
 use native.Mathlib.Omega.{arith}
 use borrow.Author.Tests.{ne-eqb}
 use lib.Dec.{T, leb, ltb, eqb, leb→le, ltb→lt, eqb→eq}
@@ -198,6 +198,12 @@ W-is s = refl
 pub W-low : (s : Counted) → Ranged s → 1 ≤ W s
 unfolding W sum
 W-low s r = omega (arith, r .weight-low 0 (r .jobs-low), sum-more (weightAt s) 1 (s .jobCount) (r .jobs-low))
+
+-- no power of W up to T passes number 9's limit: T and G are 1 at least
+pub power-fits : (s : Counted) → Accepted s → (k : ℕ) → k ≤ s .horizon → W s ^ k ≤ valueLimit
+power-fits s a k h =
+    let factor : 1 ≤ s .horizon * G s = mul-le-mul (a .ranged .horizon-low) (G-low s) in
+    omega (arith, pow-le-pow-right (W-low s (a .ranged)) h, mul-le-mul-right (W s ^ s .horizon) factor, a .fits)
 
 -- W of the first n entries is 255 times n at most
 pub weights-high : (s : Counted) → Ranged s → (n : ℕ) → n ≤ s .jobCount → sum (weightAt s) n ≤ n * 255

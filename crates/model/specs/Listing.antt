@@ -53,12 +53,12 @@ unfoldable pub lineOf : (slot : ℕ) → (byteAt : ℕ → ℕ) → (queues : �
 lineOf slot byteAt queues = decimal slot ++ (text ":" ++ (bytesListed byteAt queues ++ text "\n"))
 
 -- the line of slot t
-abbrev pub slotLine : Counted → List ℕ → ℕ → List ℕ
-slotLine s plan t = lineOf t (λ i. getD plan (placeAt s t i) 0) (N s)
+abbrev pub lineOfSlot : Counted → List ℕ → ℕ → List ℕ
+lineOfSlot s plan t = lineOf t (λ i. getD plan (placeAt s t i) 0) (N s)
 
 -- the listing of a sheet whose plan these bytes are, and whose empty queue has the value `least` at slot 0
 unfoldable pub listing : Counted → (least : ℕ) → (plan : List ℕ) → List ℕ
-listing s least plan = header (N s) (scaleOf s) least ++ inTurn (slotLine s plan) (s .horizon)
+listing s least plan = header (N s) (scaleOf s) least ++ inTurn (lineOfSlot s plan) (s .horizon)
 
 -- 4 to 10, then "11: a lent buffer shorter than needed": the plan, T times N bytes, or the buffer for the listing, of length `room`
 unfoldable pub listRefusal : Counted → (least : ℕ) → (plan : List ℕ) → (room : ℕ) → ℕ

@@ -11,8 +11,8 @@ fn print_refused(number: u32) {
     io::write_all(STDOUT_FILENO, b"\n");
 }
 
-// Writes the listing, all at once. 8,000 values leave room for fewer than 8,000 plan bytes, whose lines take at most four bytes for each and
-// six for each slot, so that 40,000 bytes are enough.
+// Writes the listing, all at once. It takes at most 66 bytes, five for each slot and four for each plan byte. 8,000 values leave room for
+// fewer than 8,000 of those, so that 40,000 bytes are enough.
 fn print_listing(sheet: Sheet, least: u64, plan: &[u8]) {
     let mut text = [0u8; 40000];
     let listed = listing::list(sheet, least, plan, &mut text);

@@ -15,7 +15,7 @@ use Rattle.model.specs.Queue.{Queue, arrive}
 use Rattle.model.specs.Refusal.{valueLimit}
 use Rattle.model.proofs.Counted.{energy-of-upto, energy-of-place, on-sheet-at}
 use Rattle.model.proofs.Recursion.{value-most}
-use Rattle.model.proofs.Refusal.{Accepted, G-low, G-covers, W-low, W-is}
+use Rattle.model.proofs.Refusal.{Accepted, G-covers, W-low, W-is, power-fits}
 use Rattle.value.specs.Width.{Width, Below}
 use Rattle.planner.specs.Passes.{valueWith, aheadTo, aheadOf}
 
@@ -85,6 +85,4 @@ module _ (s : Counted) (a : Accepted s) where
 
     -- and the scale
     pub scale-fits : (k : ℕ) → k < s .horizon → W s ^ suc k < width .limit
-    scale-fits k h =
-        let some-slot : 1 ≤ suc k * G s = one-upto (suc k) (G s) (omega arith) (G-low s) in
-        omega (arith, most-fits (suc k) h, mul-le-mul-right (W s ^ suc k) some-slot)
+    scale-fits k h = omega (arith, power-fits s a (suc k) h, roomy)

@@ -4,16 +4,11 @@ use borrow.Author.Needs.{needs}
 use Prim.Native.Nat.{ℕ}
 use lib.ListN.{length-replicate}
 use lib.Seq.{length-take-le}
-use mathlib.Core.Path.{sym, _∙_}
+use mathlib.Core.Path.{sym}
 use Rattle.model.specs.Counted.{counted}
 use Rattle.listing.proofs.Within.{listed-within}
 use Rattle.plan.proofs.print_listing.Statement.{statement}
 use Rattle.plan.proofs.print_listing.Tie as tie
-use Rattle.plan.proofs.print_listing.Reads as reads
-use Rattle.plan.proofs.print_listing.Lts as lts
-use Rattle.io.proofs.write_all.Reads as write-all-reads
-use Rattle.listing.proofs.list.Reads as list-reads
-use Rattle.plan.proofs.print_refused.Reads as print-refused-reads
 
 slice-aggregate-list : tie.Need-slice-aggregate-list
 slice-aggregate-list c = search needs

@@ -5,7 +5,8 @@ use mathlib.Core.Path.{sym}
 use native.Mathlib.Omega.{arith}
 use borrow.Fn.Kinds.{In}
 use borrow.Fn.PlainCycle.{Measures, is, falls, and}
-use Rattle.listing.proofs.Digits.{single-length, several-length, others-short}
+use Rattle.model.proofs.Codes.{rest-shorter}
+use Rattle.listing.proofs.Digits.{single-length, several-length}
 use Rattle.listing.proofs.decimal.length_in.Reads as length-in
 use Rattle.listing.proofs.decimal.length_in.Kinds as length-in-kinds
 use Rattle.listing.proofs.decimal.+length_in.Lts-length_in as length-in-lts
@@ -35,7 +36,7 @@ length-in-length-in-requires : (t : ℕ) →
 length-in-length-in-requires t c κs =
     let start = c .before in
     let asked = start .pre .1 in
-    let short = others-short (start .args .most) (start .args .x) (c .if1 .left) (asked .2) in
+    let short = rest-shorter 10 (start .args .most) (start .args .x) (omega arith) (c .if1 .left) (asked .2) in
     (omega (arith, start .pre .0, asked .0), (short .0, omega (arith, asked .1), short .1))
 
 length-in-add-result : (t : ℕ) → length-in-lts.Need-add-result (length-in-below t, length-in.Post) (length-in-at t) length-in.Post

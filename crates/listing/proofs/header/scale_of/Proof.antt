@@ -4,9 +4,9 @@ use Prim.Native.Nat.{ℕ, _+_, _*_, _-_, _^_, _≤_}
 use mathlib.Core.Path.{_≡_, sym, ap, _∙_}
 use native.Mathlib.Nat.{pow-zero}
 use native.Mathlib.Omega.{arith}
-use Rattle.model.proofs.Refusal.{fields-right}
+use Rattle.model.proofs.Refusal.{accepted, fields-right, power-fits}
 use Rattle.model.specs.Counted.{counted, W}
-use Rattle.listing.proofs.Heads.{power-fits, power-next}
+use Rattle.listing.proofs.Heads.{power-next}
 use Rattle.listing.proofs.header.scale_of.Statement.{statement}
 use Rattle.listing.proofs.header.scale_of.Tie as tie
 
@@ -34,7 +34,7 @@ next c = power-next _ (c .before .before .loop .done) (c .before .before .before
 mul-scale : tie.Need-mul-scale Inv-loop μ-loop
 mul-scale c =
     let start = c .before .before .before .before in
-    omega (arith, next c, power-fits (counted (start .args .sheet)) (start .pre) (c .before .before .loop .done + 1) (omega arith))
+    omega (arith, next c, power-fits (counted (start .args .sheet)) (accepted _ (start .pre)) (c .before .before .loop .done + 1) (omega arith))
 
 add-done : tie.Need-add-done Inv-loop μ-loop
 add-done c = omega arith
