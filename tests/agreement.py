@@ -317,7 +317,7 @@ def main(command):
         differences += 1
         show(whole, program(whole), given, f"in two pieces, {end}")
     if differences:
-        sys.exit(f"{differences} of {len(inputs)} inputs differ")
+        sys.exit(f"{differences} of {len(inputs) + 1} outputs differ")
     print(f"{len(inputs)} inputs agree: {summary(outputs)}")
 
 
