@@ -19,10 +19,6 @@ use Rattle.model.proofs.Refusal.{Accepted, G-covers, W-low, W-is, power-fits}
 use Rattle.value.specs.Width.{Width, Below}
 use Rattle.planner.specs.Passes.{valueWith, aheadTo, aheadOf}
 
--- a product of two numbers that are 1 at least is
-one-upto : (m n : ℕ) → 1 ≤ m → 1 ≤ n → 1 ≤ m * n
-one-upto m n h k = mul-le-mul h k
-
 module _ (s : Counted) (a : Accepted s) where
   -- what k slots can cost at most, scaled
   abbrev most : ℕ → ℕ
