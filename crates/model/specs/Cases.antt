@@ -8,7 +8,7 @@ use mathlib.Core.Option.{Option, none, some}
 use lib.ListN.{length, getD, take, replicate, set}
 use Rattle.model.specs.Bytes.{code, sheetBytes, write}
 use Rattle.model.specs.Counted.{Counted, counted, sheetOf}
-use Rattle.model.specs.Listing.{text, decimal, listing, list}
+use Rattle.model.specs.Listing.{text, decimal, listing, refusedLine, list}
 use Rattle.model.specs.Plan.{IsValueAt, IsCostAt, IsPlanByte, Decided, FromEmpty, valueIn, admissible, planRefusal, row}
 use Rattle.model.specs.Queue.{Queue, emptyQueue, placesOf, run, arrive, queueCount, numberOf, bearable}
 use Rattle.model.specs.Reading.{Answer, value, refused, field, read}
@@ -435,6 +435,7 @@ casesOfListings =
     lists (listing (doubling 1 3) 907 (0 ∷ 1 ∷ 10 ∷ 99 ∷ 100 ∷ 255 ∷ [])) (text "queues 2 scale 8 least 907\n0: 0 1\n1: 10 99\n2: 100 255\n") ∷
     -- the largest number of 64 bits has 20 digits
     lists (decimal none64) (text "18446744073709551615") ∷
+    lists (refusedLine 12) (text "refused 12\n") ∷
     -- eleven: a buffer of 79, a plan of twelve; places past the length stay
     numbers (list A 0 planA (replicate 79 7) .number) 11 ∷
     numbers (list A 0 planA (replicate 79 7) .written) 0 ∷

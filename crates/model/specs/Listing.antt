@@ -1,4 +1,5 @@
--- Document 01, "Worked sheet and its listing": the bytes of the listing of a planned sheet, and what the call that writes them leaves.
+-- Document 01, "Worked sheet and its listing": the bytes of the listing of a planned sheet, what the call that writes them leaves, and the
+-- line that the planning program writes for a refusal.
 use Prim.Native.Nat.{ℕ, zero, suc, _+_, _^_, _/_, _%_}
 use Prim.Native.Char.{code}
 use Prim.Native.String.{String, [] as [·], _∷_ as _·∷_}
@@ -59,6 +60,10 @@ lineOfSlot s plan t = lineOf t (λ i. getD plan (placeAt s t i) 0) (N s)
 -- the listing of a sheet whose plan these bytes are, and whose empty queue has the value `least` at slot 0
 unfoldable pub listing : Counted → (least : ℕ) → (plan : List ℕ) → List ℕ
 listing s least plan = header (N s) (scaleOf s) least ++ inTurn (lineOfSlot s plan) (s .horizon)
+
+-- "writes either `refused n`, for any number but 0, or the listing": the line of a refusal
+unfoldable pub refusedLine : ℕ → List ℕ
+refusedLine number = text "refused " ++ (decimal number ++ text "\n")
 
 -- 4 to 10, then "11: a lent buffer shorter than needed": the plan, T times N bytes, or the buffer for the listing, of length `room`
 unfoldable pub listRefusal : Counted → (least : ℕ) → (plan : List ℕ) → (room : ℕ) → ℕ

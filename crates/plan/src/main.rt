@@ -4,11 +4,11 @@ use libc::STDIN_FILENO;
 use libc::STDOUT_FILENO;
 use model::Sheet;
 
-// The one line of a refusal.
+// The one line of a refusal, all at once too.
 fn print_refused(number: u32) {
-    io::write_all(STDOUT_FILENO, b"refused ");
-    io::print_decimal(STDOUT_FILENO, number as u64);
-    io::write_all(STDOUT_FILENO, b"\n");
+    let mut line = [0u8; 29];
+    let length = listing::put_refused(&mut line, number);
+    io::write_all(STDOUT_FILENO, &line[..length]);
 }
 
 // Writes the listing, all at once. It takes at most 66 bytes, five for each slot and four for each plan byte. 8,000 values leave room for
