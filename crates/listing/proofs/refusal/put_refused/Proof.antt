@@ -1,12 +1,13 @@
 -- `put_refused` meets its contract: the word, the number and the line feed are laid, each behind the one before it. The number has at most
 -- 20 digits, so that there is room.
-use Prim.Native.Nat.{ℕ, _+_, _≤_}
+use Prim.Native.Nat.{ℕ, _+_, _^_, _≤_, _<_}
 use mathlib.Core.List.{List, _++_}
 use native.Mathlib.Omega.{arith}
 use borrow.Author.Needs.{needs}
 use lib.ListN.{length, length-append}
 use Rattle.model.specs.Listing.{text, decimal, refusedLine}
-use Rattle.buffers.proofs.Laid.{laid-then, room-first, room-then}
+use Rattle.buffers.specs.Laid.{Laid}
+use Rattle.buffers.proofs.Laid.{laid-length, laid-then, room-then}
 use Rattle.listing.proofs.Digits.{digits-upto}
 use Rattle.listing.proofs.refusal.put_refused.Statement.{statement}
 use Rattle.listing.proofs.refusal.put_refused.Tie as tie
@@ -18,6 +19,16 @@ fromNumber start = decimal (start .args .number) ++ text "\n"
 -- 29 bytes are enough
 enough : (start : tie.Start) → length (text "refused " ++ fromNumber start) ≤ 29
 enough start = simp length-append (omega (arith, digits-upto 20 20 (start .args .number) (omega arith) (omega arith)))
+
+-- behind the word any number of 64 bits has room
+any-fits : (x : ℕ) {at room : ℕ} → x < 10 ^ 20 → at ≤ 8 → 29 ≤ room → at + length (decimal x) ≤ room
+any-fits x h at-word room = omega (arith, digits-upto 20 20 x (omega arith) h)
+
+-- and behind that a line feed
+feed-fits : (x : ℕ) {at next : ℕ} {before after : List ℕ} → x < 10 ^ 20 → at ≤ 8 → 29 ≤ length before →
+    Laid at (decimal x) before after next → next + 1 ≤ length after
+feed-fits x h at-word room laid =
+    omega (arith, laid .next-is, laid-length laid (any-fits x h at-word room), digits-upto 20 20 x (omega arith) h)
 
 -- where a part begins, there is room for the line from it on
 
@@ -37,7 +48,8 @@ put-text-requires c κs = search needs
 put-decimal-requires : tie.Need-put-decimal-requires
 put-decimal-requires c κs =
     let word = c .before .before .before in
-    room-first _ _ (decimal (word .before .before .before .before .args .number)) (text "\n") (room-number word)
+    any-fits _ (omega arith) (omega (arith, word .put-text .ensures .next-is))
+    (omega (arith, word .put-text .kept .0, word .before .before .before .before .pre))
 
 slice-aggregate-put-text-2 : tie.Need-slice-aggregate-put-text-2
 slice-aggregate-put-text-2 c = search needs
@@ -45,7 +57,9 @@ slice-aggregate-put-text-2 c = search needs
 put-text-requires-2 : tie.Need-put-text-requires-2
 put-text-requires-2 c κs =
     let number = c .before .before .before .before in
-    room-then (text "\n") (number .put-decimal .ensures) (room-number (number .before .before .before .before))
+    let word = number .before .before .before .before in
+    feed-fits _ (omega arith) (omega (arith, word .put-text .ensures .next-is))
+    (omega (arith, word .put-text .kept .0, word .before .before .before .before .pre)) (number .put-decimal .ensures)
 
 same-length : tie.Need-same-length
 same-length c = search needs
