@@ -1,7 +1,7 @@
 -- Document 01, "Worked sheet and its listing": the bytes of the listing of a planned sheet, what the call that writes them leaves, and the
 -- line that the planning program writes for a refusal.
 use Prim.Native.Nat.{ℕ, zero, suc, _+_, _^_, _/_, _%_}
-use Prim.Native.Char.{code}
+use Prim.Native.Char.{code as characterCode}
 use Prim.Native.String.{String, [] as [·], _∷_ as _·∷_}
 use mathlib.Core.Bool.{cond, _&&_}
 use mathlib.Core.List.{List, [], _∷_, _++_}
@@ -16,7 +16,7 @@ use Rattle.model.specs.Tests.{check, _then_, inTurn}
 -- a text's characters, each by its code
 abbrev pub text : String → List ℕ
 text [·] = []
-text (c ·∷ s) = code c ∷ text s
+text (c ·∷ s) = characterCode c ∷ text s
 
 -- a digit's character: 0 is 48
 abbrev pub digit : ℕ → ℕ

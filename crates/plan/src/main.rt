@@ -4,7 +4,7 @@ use libc::STDIN_FILENO;
 use libc::STDOUT_FILENO;
 use model::Sheet;
 
-// The one line of a refusal, all at once too.
+// Writes the one line of a refusal, all at once.
 fn print_refused(number: u32) {
     let mut line = [0u8; 29];
     let length = listing::put_refused(&mut line, number);
