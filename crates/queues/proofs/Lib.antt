@@ -5,4 +5,5 @@ pub mod Slots
 pub mod Numbering
 pub mod Finding
 pub mod RoundTrip
+pub mod Blocks
 pub mod Fewer

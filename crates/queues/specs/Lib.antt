@@ -1,3 +1,4 @@
 pub mod Counts
 pub mod Order
 pub mod Slot
+pub mod Blocks
