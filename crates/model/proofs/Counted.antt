@@ -1,5 +1,5 @@
 -- Laws of a sheet's speeds, their energies and the largest speed M (specs/Counted.antt).
-use Prim.Native.Nat.{ℕ, zero, suc, _≤_, _<_}
+use Prim.Native.Nat.{ℕ, zero, suc, _≤_, _<_, zero-le}
 use mathlib.Core.Path.{_≡_, refl, sym, ap, _∙_, subst}
 use mathlib.Core.Logic.{_↔_, ⊎-elim}
 use native.Mathlib.Nat.{lt-trans, eq-or-lt-of-le, le-of-suc-le-suc, not-suc-le-zero, lt-of-le-of-lt}
@@ -105,6 +105,19 @@ unfolding M
 speed-upto s a t =
     let f = place-of s a t in
     subst (λ (b : ℕ). b ≤ M s) (f .2) (greatest-at (speedAt s) (s .speedCount) (f .0) (f .1))
+
+-- where they rise, the speed at a place is no less than the place
+place-upto : (s : Counted) → Climbs s → (j : ℕ) → j < s .speedCount → j ≤ speedAt s j
+place-upto s c zero h = zero-le
+place-upto s c (suc j) h = omega (arith, place-upto s c j (omega arith), c j h)
+
+-- so that there are no more speeds than 0 to M
+pub speeds-few : (s : Counted) → Climbs s → s .speedCount ≤ suc (M s)
+speeds-few s c = go (s .speedCount) refl
+  where
+    go : (n : ℕ) → s .speedCount ≡ n → n ≤ suc (M s)
+    go zero e = zero-le
+    go (suc j) e = omega (arith, place-upto s c j (omega arith), speed-upto s (speedAt s j) (on-sheet-at s j (omega arith)))
 
 -- M is no more than any bound of the sheet's speeds
 pub speed-least : (s : Counted) (b : ℕ) → ((a : ℕ) → T (onSheet s a) → a ≤ b) → M s ≤ b

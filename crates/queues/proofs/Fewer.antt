@@ -1,7 +1,8 @@
--- The queues after a slot are those of one position fewer, since the last total then stands twice (proofs/Slots.antt). They are far fewer
--- than all queues: the planner's buffer for them has 7,084 places.
-use Prim.Native.Nat.{ℕ, zero, suc, _≤_}
-use mathlib.Core.Path.{_≡_, refl}
+-- How much room the planner's local memory needs. The queues after a slot are those of one position fewer, since the last total then stands
+-- twice (proofs/Slots.antt); they are far fewer than all queues, and so are the blocks that queues come in (specs/Blocks.antt). What
+-- follows from N being at most 65,535 is computed once, over every largest speed and every number of positions.
+use Prim.Native.Nat.{ℕ, zero, suc, pred, _+_, _*_, _≤_}
+use mathlib.Core.Path.{_≡_, refl, ap}
 use mathlib.Core.Bool.{Bool, true, false, _||_}
 use native.Mathlib.Omega.{arith}
 use borrow.Author.Tests.{leb-true}
@@ -13,25 +14,39 @@ use Rattle.model.proofs.Queues.{queue-count}
 use Rattle.model.proofs.Tests.{everywhere-at}
 use Rattle.queues.specs.Order.{Ranges}
 
--- at most 7,084 of D positions, or more than 65,535 of one position more
-abbrev fewOrRefused : ℕ → ℕ → Bool
-fewOrRefused M D = leb (continuationCount M D 0) 7084 || ltb 65535 (continuationCount M (suc D) 0)
+-- a measure of D positions is at most so much, or there are more than 65,535 queues of one position more
+abbrev fewOrRefused : (ℕ → ℕ → ℕ) → ℕ → ℕ → ℕ → Bool
+fewOrRefused measure most M D = leb (measure M D) most || ltb 65535 (continuationCount M (suc D) 0)
 
--- so it is for each largest speed and each number of positions: the checker computes all 48
-all-few-or-refused : T (everywhere (λ m. everywhere (fewOrRefused (suc m)) 6) 8)
-unfolding everywhere continuationCount sum
-all-few-or-refused = tt
+-- so it is for each largest speed and each number of positions
+abbrev everywhereFew : (ℕ → ℕ → ℕ) → ℕ → Bool
+everywhereFew measure most = everywhere (λ m. everywhere (fewOrRefused measure most (suc m)) 6) 8
 
--- where there are at most 65,535 queues, at most 7,084 are left after a slot: those of one position fewer
-pub few-after : (M D : ℕ) → Ranges M (suc D) → queueCount M (suc D) ≤ 65535 → queueCount M D ≤ 7084
-few-after zero D n h = absurd (omega (arith, n .speed-low))
-few-after (suc m) D n h =
-    let row = everywhere-at (λ k. everywhere (fewOrRefused (suc k)) 6) 8 all-few-or-refused m (omega (arith, n .speed-high)) in
-    go (leb (continuationCount (suc m) D 0) 7084) refl
-    (everywhere-at (fewOrRefused (suc m)) 6 row D (omega (arith, n .bound-high)))
+-- then it is at most so much wherever there are at most 65,535 queues
+few : (measure : ℕ → ℕ → ℕ) (most : ℕ) → T (everywhereFew measure most) → (M D : ℕ) → Ranges M (suc D) → queueCount M (suc D) ≤ 65535 →
+    measure M D ≤ most
+few measure most all zero D n h = absurd (omega (arith, n .speed-low))
+few measure most all (suc m) D n h =
+    let row = everywhere-at (λ k. everywhere (fewOrRefused measure most (suc k)) 6) 8 all m (omega (arith, n .speed-high)) in
+    go (leb (measure (suc m) D) most) refl (everywhere-at (fewOrRefused measure most (suc m)) 6 row D (omega (arith, n .bound-high)))
   where
-    go : (few : Bool) → leb (continuationCount (suc m) D 0) 7084 ≡ few → T (few || ltb 65535 (continuationCount (suc m) (suc D) 0)) →
-        queueCount (suc m) D ≤ 7084
-    go true e t = omega (arith, leb-true (continuationCount (suc m) D 0) 7084 e, queue-count (suc m) D)
+    go : (b : Bool) → leb (measure (suc m) D) most ≡ b → T (b || ltb 65535 (continuationCount (suc m) (suc D) 0)) → measure (suc m) D ≤ most
+    go true e t = leb-true (measure (suc m) D) most e
     go false e t =
         absurd (omega (arith, ltb→lt 65535 (continuationCount (suc m) (suc D) 0) t, queue-count (suc m) (suc D)))
+
+-- at most 7,084 queues are left after a slot: those of one position fewer
+pub few-after : (M D : ℕ) → Ranges M (suc D) → queueCount M (suc D) ≤ 65535 → queueCount M D ≤ 7084
+unfolding everywhere continuationCount sum
+few-after M D n h = omega (arith, few (λ m d. continuationCount m d 0) 7084 tt M D n h, queue-count M D)
+
+-- a line for each of them, of a number for each speed from 0 to M and three more, comes to at most 49,588 numbers
+pub few-lines : (M D : ℕ) → Ranges M (suc D) → queueCount M (suc D) ≤ 65535 → queueCount M D * (M + 4) ≤ 49588
+unfolding everywhere continuationCount sum
+few-lines M D n h =
+    omega (arith, few (λ m d. continuationCount m d 0 * (m + 4)) 49588 tt M D n h, ap (λ (k : ℕ). k * (M + 4)) (queue-count M D))
+
+-- and they come in at most 969 blocks
+pub few-blocks : (M D : ℕ) → Ranges M (suc D) → queueCount M (suc D) ≤ 65535 → queueCount M (pred D) ≤ 969
+unfolding everywhere continuationCount sum
+few-blocks M D n h = omega (arith, few (λ m d. continuationCount m (pred d) 0) 969 tt M D n h, queue-count M (pred D))
