@@ -2,14 +2,17 @@
 -- every loop that fills a lent buffer.
 use Prim.Native.Nat.{ℕ, zero, suc, _+_, _*_, _≤_, _<_}
 use mathlib.Core.Path.{_≡_, refl, sym, ap, _∙_, subst}
+use mathlib.Core.Bool.{Bool, true, false}
 use mathlib.Core.List.{List}
 use mathlib.Core.Logic.{_⊎_, inl, inr, ⊎-elim}
 use native.Mathlib.Nat.{le-trans, mul-le-mul-right, add-zero, eq-or-lt-of-le, le-of-suc-le-suc, not-suc-le-zero, suc-mul}
 use native.Mathlib.Omega.{arith}
+use borrow.Author.Tests.{ltb-true, ltb-false}
+use lib.Dec.{ltb}
 use lib.ListN.{length, getD, set, length-set}
 use lib.Seq.{getD-set-same, getD-set-other}
 use Rattle.value.specs.Width.{Width, numberFrom, decode, readAt}
-use Rattle.value.specs.Fills.{numberAt, Fills}
+use Rattle.value.specs.Fills.{numberAt, Fills, FillsWhere}
 
 -- a reader of things that stand in so many places each: what stands at place i depends on those places alone
 abbrev pub Local : {A : Type 0} → ℕ → (List ℕ → ℕ → A) → Type 0
@@ -82,6 +85,76 @@ module _ {A : Type 0} (places : ℕ) (reader : List ℕ → ℕ → A) where
   pub fills-whole : {f : ℕ → A} {from n wanted : ℕ} {before after : List ℕ} → Fills places reader f from n before after → n ≡ wanted →
       Fills places reader f from wanted before after
   fills-whole {f = f} {from = from} {before = before} {after = after} fill e = subst (λ (k : ℕ). Fills places reader f from k before after) e fill
+
+  -- a fill of the same things
+  pub fills-same : {f g : ℕ → A} {from n : ℕ} {before after : List ℕ} → ((i : ℕ) → i < n → f i ≡ g i) →
+      Fills places reader f from n before after → Fills places reader g from n before after
+  fills-same same fill = record { same-length = fill .same-length; filled = λ i h. fill .filled i h ∙ same i h; outside = fill .outside }
+
+  -- things that are done in any order
+
+  -- none is
+  pub where-none : {f : ℕ → A} {from : ℕ} {done : ℕ → Type 0} {l : List ℕ} → ((i : ℕ) → done i → ⊥) → FillsWhere places reader f from done l l
+  where-none none = record { same-length = refl; filled = λ i d. absurd (none i d); outside = λ p h. refl }
+
+  -- one is
+  pub where-one : {f g : ℕ → A} {from n next : ℕ} {before after : List ℕ} → next ≡ from + n → g 0 ≡ f n → Fills places reader g next 1 before after →
+      FillsWhere places reader f from (λ i. i ≡ n) before after
+  where-one {f = f} {from = from} {n = n} {next = next} {after = after} here same fill =
+      record {
+        same-length = fill .same-length;
+        filled = λ i e.
+            subst (λ (j : ℕ). reader after (from + j) ≡ f j) (sym e)
+            (subst (λ (j : ℕ). reader after j ≡ f n) (add-zero next ∙ here) (fill .filled 0 (omega arith) ∙ same));
+        outside = λ p h.
+            fill .outside p
+            (⊎-elim (λ l. inl (subst (λ (j : ℕ). p < j * places) (sym here) l))
+            (λ l. inr (subst (λ (j : ℕ). j * places ≤ p) (omega arith) l)) (h n refl));
+      }
+
+  -- those of two fills are, one after the other, where no thing is filled by both
+  pub where-joined : Local places reader → {f : ℕ → A} {from : ℕ} {first second both : ℕ → Type 0} {l₀ l₁ l₂ : List ℕ} →
+      ((i : ℕ) → both i → first i ⊎ second i) → ((i : ℕ) → first i → both i) → ((i : ℕ) → second i → both i) →
+      ((i : ℕ) → first i → second i → ⊥) → FillsWhere places reader f from first l₀ l₁ → FillsWhere places reader f from second l₁ l₂ →
+      FillsWhere places reader f from both l₀ l₂
+  where-joined local {f = f} {from = from} {first = first} {second = second} {l₁ = l₁} {l₂ = l₂} split left right apart a b =
+      record {
+        same-length = b .same-length ∙ a .same-length;
+        filled = λ i d. ⊎-elim (early i) (λ e. b .filled i e) (split i d);
+        outside = λ p h. b .outside p (λ i d. h i (right i d)) ∙ a .outside p (λ i d. h i (left i d));
+      }
+    where
+      other : (i j : ℕ) → (i ≡ j → ⊥) → (p : ℕ) → (from + i) * places ≤ p → p < suc (from + i) * places →
+          (p < (from + j) * places) ⊎ (suc (from + j) * places ≤ p)
+      other i j differ p low high = go (ltb i j) refl
+        where
+          go : (t : Bool) → ltb i j ≡ t → (p < (from + j) * places) ⊎ (suc (from + j) * places ≤ p)
+          go true e =
+              let l : suc (from + i) ≤ from + j = omega (arith, ltb-true i j e) in
+              inl (omega (arith, mul-le-mul-right places l))
+          go false e =
+              let l : suc (from + j) ≤ from + i = ⊎-elim (λ q. absurd (differ (sym q))) (λ q. omega arith) (eq-or-lt-of-le (ltb-false i j e)) in
+              inr (omega (arith, mul-le-mul-right places l))
+
+      early : (i : ℕ) → first i → reader l₂ (from + i) ≡ f i
+      early i d =
+          local l₂ l₁ (from + i)
+          (λ p low high. b .outside p (λ j e. other i j (λ q. apart i d (subst second (sym q) e)) p low high)) ∙
+          a .filled i d
+
+  -- all are
+  pub where-all : {f : ℕ → A} {from n : ℕ} {done : ℕ → Type 0} {before after : List ℕ} → ((i : ℕ) → i < n → done i) → ((i : ℕ) → done i → i < n) →
+      FillsWhere places reader f from done before after → Fills places reader f from n before after
+  where-all {from = from} {n = n} all within fill =
+      record {
+        same-length = fill .same-length;
+        filled = λ i h. fill .filled i (all i h);
+        outside = λ p h. fill .outside p (λ i d. place p i (within i d) h);
+      }
+    where
+      place : (p i : ℕ) → i < n → (p < from * places) ⊎ ((from + n) * places ≤ p) → (p < (from + i) * places) ⊎ (suc (from + i) * places ≤ p)
+      place p i l (inl h) = let low : from ≤ from + i = omega arith in inl (omega (arith, mul-le-mul-right places low))
+      place p i l (inr h) = let low : suc (from + i) ≤ from + n = omega arith in inr (omega (arith, mul-le-mul-right places low))
 
 -- one plain number stored
 pub number-stored : (l : List ℕ) (i x : ℕ) → i < length l → Fills 1 numberAt (λ j. x) i 1 l (set l i x)
