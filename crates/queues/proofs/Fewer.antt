@@ -4,6 +4,7 @@
 use Prim.Native.Nat.{ℕ, zero, suc, pred, _+_, _*_, _≤_}
 use mathlib.Core.Path.{_≡_, refl, ap}
 use mathlib.Core.Bool.{Bool, true, false, _||_}
+use native.Mathlib.Nat.{not-suc-le-zero}
 use native.Mathlib.Omega.{arith}
 use borrow.Author.Tests.{leb-true}
 use lib.Dec.{T, leb, ltb, ltb→lt}
@@ -23,10 +24,11 @@ abbrev everywhereFew : (ℕ → ℕ → ℕ) → ℕ → Bool
 everywhereFew measure most = everywhere (λ m. everywhere (fewOrRefused measure most (suc m)) 6) 8
 
 -- then it is at most so much wherever there are at most 65,535 queues
-few : (measure : ℕ → ℕ → ℕ) (most : ℕ) → T (everywhereFew measure most) → (M D : ℕ) → Ranges M (suc D) → queueCount M (suc D) ≤ 65535 →
-    measure M D ≤ most
-few measure most all zero D n h = absurd (omega (arith, n .speed-low))
-few measure most all (suc m) D n h =
+few : (measure : ℕ → ℕ → ℕ) (most : ℕ) → T (everywhereFew measure most) → (M D : ℕ) → 1 ≤ D → Ranges M D → queueCount M D ≤ 65535 →
+    measure M (pred D) ≤ most
+few measure most all M zero low n h = absurd (not-suc-le-zero low)
+few measure most all zero (suc D) low n h = absurd (omega (arith, n .speed-low))
+few measure most all (suc m) (suc D) low n h =
     let row = everywhere-at (λ k. everywhere (fewOrRefused measure most (suc k)) 6) 8 all m (omega (arith, n .speed-high)) in
     go (leb (measure (suc m) D) most) refl (everywhere-at (fewOrRefused measure most (suc m)) 6 row D (omega (arith, n .bound-high)))
   where
@@ -35,18 +37,23 @@ few measure most all (suc m) D n h =
     go false e t =
         absurd (omega (arith, ltb→lt 65535 (continuationCount (suc m) (suc D) 0) t, queue-count (suc m) (suc D)))
 
--- at most 7,084 queues are left after a slot: those of one position fewer
-pub few-after : (M D : ℕ) → Ranges M (suc D) → queueCount M (suc D) ≤ 65535 → queueCount M D ≤ 7084
-unfolding everywhere continuationCount sum
-few-after M D n h = omega (arith, few (λ m d. continuationCount m d 0) 7084 tt M D n h, queue-count M D)
+module _ (M D : ℕ) (low : 1 ≤ D) (n : Ranges M D) (h : queueCount M D ≤ 65535) where
+  -- at most 7,084 queues are left after a slot: those of one position fewer
+  pub few-after : queueCount M (pred D) ≤ 7084
+  unfolding everywhere continuationCount sum
+  few-after = omega (arith, few (λ m d. continuationCount m d 0) 7084 tt M D low n h, queue-count M (pred D))
 
--- a line for each of them, of a number for each speed from 0 to M and three more, comes to at most 49,588 numbers
-pub few-lines : (M D : ℕ) → Ranges M (suc D) → queueCount M (suc D) ≤ 65535 → queueCount M D * (M + 4) ≤ 49588
-unfolding everywhere continuationCount sum
-few-lines M D n h =
-    omega (arith, few (λ m d. continuationCount m d 0 * (m + 4)) 49588 tt M D n h, ap (λ (k : ℕ). k * (M + 4)) (queue-count M D))
+  -- a line for each of them, of a number for each speed from 0 to M and three more, comes to at most 49,588 numbers
+  pub few-lines : queueCount M (pred D) * (M + 4) ≤ 49588
+  unfolding everywhere continuationCount sum
+  few-lines =
+      omega (
+        arith,
+        few (λ m d. continuationCount m d 0 * (m + 4)) 49588 tt M D low n h,
+        ap (λ (k : ℕ). k * (M + 4)) (queue-count M (pred D)),
+      )
 
--- and they come in at most 969 blocks
-pub few-blocks : (M D : ℕ) → Ranges M (suc D) → queueCount M (suc D) ≤ 65535 → queueCount M (pred D) ≤ 969
-unfolding everywhere continuationCount sum
-few-blocks M D n h = omega (arith, few (λ m d. continuationCount m (pred d) 0) 969 tt M D n h, queue-count M (pred D))
+  -- and they come in at most 969 blocks
+  pub few-blocks : queueCount M (pred (pred D)) ≤ 969
+  unfolding everywhere continuationCount sum
+  few-blocks = omega (arith, few (λ m d. continuationCount m (pred d) 0) 969 tt M D low n h, queue-count M (pred (pred D)))

@@ -1,0 +1,5 @@
+pub mod Rows
+pub mod Measures
+pub mod Kept
+pub mod Tables
+pub mod Blocks

@@ -1,0 +1,69 @@
+-- What the sizes of an accepted sheet give (specs/Sizes.antt): they are in range, and the tables and the buffer of the passes have room.
+use Prim.Native.Nat.{ℕ, suc, pred, _+_, _*_, _-_, _≤_}
+use mathlib.Core.Path.{_≡_, sym, ap, _∙_}
+use native.Mathlib.Nat.{mul-le-mul, mul-le-mul-left}
+use native.Mathlib.Omega.{arith}
+use Rattle.model.specs.Counted.{Counted, M}
+use Rattle.model.specs.Queue.{queueCount}
+use Rattle.model.proofs.Refusal.{Accepted, N-is}
+use Rattle.queues.specs.Order.{Ranges}
+use Rattle.queues.proofs.Bounds.{ranges-of}
+use Rattle.queues.proofs.Fewer.{few-after, few-lines, few-blocks}
+use Rattle.rows.specs.Sizes.{Sized, Measured}
+use Rattle.rows.specs.Tables.{lineAt}
+use Rattle.rows.specs.declared.sizes.Sizes.{Sizes}
+
+-- one position fewer is in range too
+pub ranges-fewer : {largest D : ℕ} → Ranges largest D → Ranges largest (pred D)
+ranges-fewer r = record { speed-low = r .speed-low; speed-high = r .speed-high; bound-high = omega (arith, r .bound-high) }
+
+-- one position fewer, as the code and as the specification write it
+pub one-fewer : (D : ℕ) → D - 1 ≡ pred D
+one-fewer D = omega arith
+
+-- the sizes of an accepted sheet are the passes'
+pub measured : (s : Counted) (sizes : Sizes) → Accepted s → Sized s sizes → Measured sizes
+measured s sizes a z =
+    record {
+      ranges = ranges-of (a .ranged) (z .largest-is) (omega (arith, z .bound-is));
+      bound-low = omega (arith, a .ranged .bound-low, z .bound-is);
+      queues-is = z .queues-is ∙ N-is s ∙ sym (same (λ D. D));
+      after-is = z .after-is ∙ sym (same pred);
+      blocks-is = z .blocks-is ∙ sym (same (λ D. pred (pred D)));
+      queues-high = omega (arith, z .queues-is, a .queues-high);
+    }
+  where
+    same : (f : ℕ → ℕ) → queueCount (sizes .largest) (f (sizes .bound)) ≡ queueCount (M s) (f (s .bound))
+    same f = ap (λ (m : ℕ). queueCount m (f (sizes .bound))) (z .largest-is) ∙ ap (λ (D : ℕ). queueCount (M s) (f D)) (z .bound-is)
+
+-- what follows from there being few queues
+
+module _ {sizes : Sizes} (m : Measured sizes) where
+  queues-few : queueCount (sizes .largest) (sizes .bound) ≤ 65535
+  queues-few = omega (arith, m .queues-is, m .queues-high)
+
+  -- no last total is above 48
+  pub most-total : sizes .bound * sizes .largest ≤ 48
+  most-total = mul-le-mul (m .ranges .bound-high) (m .ranges .speed-high)
+
+  -- the buffer of what is ahead has room
+  pub after-room : sizes .after ≤ 7084
+  after-room = omega (arith, m .after-is, few-after (sizes .largest) (sizes .bound) (m .bound-low) (m .ranges) queues-few)
+
+  -- so has the table of the second pass, with no more speeds than 0 to M
+  pub lines-room : (n : ℕ) → n ≤ suc (sizes .largest) → lineAt 9 n (sizes .after) ≤ 49606
+  lines-room n h =
+      let short : n + 3 ≤ sizes .largest + 4 = omega arith in
+      omega (
+        arith,
+        mul-le-mul-left (sizes .after) short,
+        ap (λ (k : ℕ). k * (sizes .largest + 4)) (m .after-is),
+        few-lines (sizes .largest) (sizes .bound) (m .bound-low) (m .ranges) queues-few,
+      )
+
+  -- and that of the first, with at most 32 entries
+  pub entry-lines-room : (n : ℕ) → n ≤ 32 → lineAt 32 n (sizes .blocks) ≤ 33979
+  entry-lines-room n h =
+      let few : sizes .blocks ≤ 969 = omega (arith, m .blocks-is, few-blocks (sizes .largest) (sizes .bound) (m .bound-low) (m .ranges) queues-few) in
+      let short : n + 3 ≤ 35 = omega arith in
+      omega (arith, mul-le-mul few short)

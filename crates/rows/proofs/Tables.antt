@@ -1,0 +1,105 @@
+-- Laws of tables (specs/Tables.antt): both columns one place further, and one line more; what is written behind leaves what stands before.
+use Prim.Native.Nat.{ℕ, zero, suc, _+_, _*_, _≤_, _<_}
+use mathlib.Core.Path.{_≡_, refl, sym, ap, _∙_, subst}
+use mathlib.Core.List.{List}
+use mathlib.Core.Logic.{_⊎_, inl, inr}
+use native.Mathlib.Nat.{add-zero, suc-mul, mul-le-mul-right, mul-one, not-suc-le-zero, eq-or-lt-of-le, le-of-suc-le-suc}
+use native.Mathlib.Numerals.{add-one}
+use native.Mathlib.Omega.{arith}
+use lib.ListN.{length, getD, set, length-set}
+use lib.Seq.{getD-set-same, getD-set-other}
+use Rattle.value.specs.Fills.{Fills, numberAt}
+use Rattle.value.proofs.Filling.{number-local, number-stored, fills-none, fills-more}
+use Rattle.rows.specs.Tables.{lineOf, lineAt, Columns, Lines}
+
+-- the columns
+
+-- nothing stands in them yet
+pub columns-none : (c : ℕ) (f g : ℕ → ℕ) (l : List ℕ) → Columns c 0 f g l
+columns-none c f g l = record { firsts = λ j h. absurd (not-suc-le-zero h); seconds = λ j h. absurd (not-suc-le-zero h) }
+
+-- one place further
+pub columns-more : (c place a b : ℕ) (l : List ℕ) → place < c → c + c ≤ length l → (f g : ℕ → ℕ) → f place ≡ a → g place ≡ b →
+    Columns c place f g l → Columns c (place + 1) f g (set (set l place a) (c + place) b)
+columns-more c place a b l low room f g e d so-far =
+    record {
+      firsts = λ j h. getD-set-other l₁ (c + place) j b 0 (λ q. omega arith) ∙ first j (eq-or-lt-of-le (upto j h));
+      seconds = λ j h. second j (eq-or-lt-of-le (upto j h));
+    }
+  where
+    l₁ : List ℕ
+    l₁ = set l place a
+
+    upto : (j : ℕ) → j < place + 1 → j ≤ place
+    upto j h = omega arith
+
+    first : (j : ℕ) → (j ≡ place) ⊎ (j < place) → getD l₁ j 0 ≡ f j
+    first j (inl q) = ap (λ (i : ℕ). getD l₁ i 0) q ∙ getD-set-same l place a 0 (omega arith) ∙ sym e ∙ ap f (sym q)
+    first j (inr k) = getD-set-other l place j a 0 (λ q. omega arith) ∙ so-far .firsts j k
+
+    second : (j : ℕ) → (j ≡ place) ⊎ (j < place) → getD (set l₁ (c + place) b) (c + j) 0 ≡ g j
+    second j (inl q) =
+        ap (λ (i : ℕ). getD (set l₁ (c + place) b) (c + i) 0) q ∙
+        getD-set-same l₁ (c + place) b 0 (omega (arith, length-set l place a)) ∙ sym d ∙ ap g (sym q)
+    second j (inr k) =
+        getD-set-other l₁ (c + place) (c + j) b 0 (λ q. omega arith) ∙ getD-set-other l place (c + j) a 0 (λ q. omega arith) ∙
+        so-far .seconds j k
+
+-- what is written behind the columns leaves them as they are
+pub columns-kept : (c n : ℕ) {f g : ℕ → ℕ} {l l′ : List ℕ} → n ≤ c → ((p : ℕ) → p < c + c → getD l′ p 0 ≡ getD l p 0) → Columns c n f g l →
+    Columns c n f g l′
+columns-kept c n few kept columns =
+    record {
+      firsts = λ j h. kept j (omega arith) ∙ columns .firsts j h;
+      seconds = λ j h. kept (c + j) (omega arith) ∙ columns .seconds j h;
+    }
+
+-- a line
+
+-- its first three numbers stored
+pub head-stored : (l : List ℕ) (at number lowest third : ℕ) → at + 3 ≤ length l → (lane : ℕ → ℕ) →
+    Fills 1 numberAt (lineOf number lowest third lane) at 3 l (set (set (set l at number) (at + 1) lowest) (at + 2) third)
+head-stored l at number lowest third h lane =
+    fills-more 1 numberAt number-local refl refl
+    (fills-more 1 numberAt number-local refl refl
+    (fills-more 1 numberAt number-local (sym (add-zero at)) refl (fills-none 1 numberAt (lineOf number lowest third lane) at l)
+    (number-stored l at number (omega arith)))
+    (number-stored l₁ (at + 1) lowest (omega (arith, length-set l at number))))
+    (number-stored l₂ (at + 2) third (omega (arith, length-set l at number, length-set l₁ (at + 1) lowest)))
+  where
+    l₁ : List ℕ
+    l₁ = set l at number
+
+    l₂ : List ℕ
+    l₂ = set l₁ (at + 1) lowest
+
+-- the lines
+
+-- of no block
+pub lines-none : (c n : ℕ) (line : ℕ → ℕ → ℕ) (l : List ℕ) → c + c ≤ length l → Lines c n 0 line l
+lines-none c n line l room = record { room = omega arith; right = λ b i h k. absurd (not-suc-le-zero h) }
+
+-- of one block more
+pub lines-more : (c n b : ℕ) (line : ℕ → ℕ → ℕ) {l l′ : List ℕ} → lineAt c n (b + 1) ≤ length l →
+    Fills 1 numberAt (line b) (lineAt c n b) (n + 3) l l′ → Lines c n b line l → Lines c n (b + 1) line l′
+lines-more c n b line {l} {l′} room fill so-far =
+    record { room = omega (arith, fill .same-length); right = λ k i h low. each k i low (eq-or-lt-of-le (upto k h)) }
+  where
+    upto : (k : ℕ) → k < b + 1 → k ≤ b
+    upto k h = omega arith
+
+    each : (k i : ℕ) → i < n + 3 → (k ≡ b) ⊎ (k < b) → getD l′ (lineAt c n k + i) 0 ≡ line k i
+    each k i low (inl q) =
+        subst (λ (j : ℕ). getD l′ (lineAt c n j + i) 0 ≡ line j i) (sym q) (fill .filled i low)
+    each k i low (inr h) =
+        let before : k * (n + 3) + (n + 3) ≤ b * (n + 3) = omega (arith, mul-le-mul-right (n + 3) h, suc-mul k (n + 3)) in
+        fill .outside (lineAt c n k + i) (inl (omega arith)) ∙ so-far .right k i h low
+
+-- a line that is written leaves the columns
+pub line-behind : (c n b size : ℕ) (line : ℕ → ℕ) {l l′ : List ℕ} → Fills 1 numberAt line (lineAt c n b) size l l′ →
+    (p : ℕ) → p < c + c → getD l′ p 0 ≡ getD l p 0
+line-behind c n b size line fill p h = fill .outside p (inl (omega arith))
+
+-- a line lies within a table that has room for it
+pub line-within : (c n b blocks : ℕ) {room : ℕ} → b < blocks → lineAt c n blocks ≤ room → lineAt c n b + (n + 3) ≤ room
+line-within c n b blocks h room = omega (arith, mul-le-mul-right (n + 3) h, suc-mul b (n + 3))
