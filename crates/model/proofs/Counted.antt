@@ -29,7 +29,7 @@ abbrev pub Climbs : Counted → Type 0
 Climbs s = (j : ℕ) → suc j < s .speedCount → speedAt s j < speedAt s (suc j)
 
 -- then a later place has a greater speed
-later-faster : (s : Counted) → Climbs s → (i j : ℕ) → i < j → j < s .speedCount → speedAt s i < speedAt s j
+pub later-faster : (s : Counted) → Climbs s → (i j : ℕ) → i < j → j < s .speedCount → speedAt s i < speedAt s j
 later-faster s c i zero h l = absurd (not-suc-le-zero h)
 later-faster s c i (suc j) h l =
     ⊎-elim (λ q. rw q (c j l)) (λ k. lt-trans (later-faster s c i j k (omega arith)) (c j l))

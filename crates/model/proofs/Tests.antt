@@ -1,5 +1,5 @@
 -- Laws of the tests and of the small loops over places (specs/Tests.antt).
-use Prim.Native.Nat.{ℕ, zero, suc, max, _+_, _*_, _≤_, _<_}
+use Prim.Native.Nat.{ℕ, zero, suc, max, _+_, _*_, _≤_, _<_, zero-le}
 use mathlib.Core.Path.{_≡_, refl, sym, ap, subst, _∙_}
 use mathlib.Core.Bool.{Bool, true, false, cond, _&&_, _||_}
 use mathlib.Core.List.{List}
@@ -259,6 +259,16 @@ first-holds test (suc n) h = go (firstPlace test n) (first-holds test n) (ltb (f
         cond c p (cond (test n) n (suc n)) < suc n → T (test (cond c p (cond (test n) n (suc n))))
     go p ih true e h = ih (ltb-true p n e)
     go p ih false e h = last-holds test n (test n) refl h
+
+pub first-within : (test : ℕ → Bool) (n : ℕ) → firstPlace test n ≤ n
+unfolding firstPlace
+first-within test zero = zero-le
+first-within test (suc n) = go (firstPlace test n) (ltb (firstPlace test n) n) refl (test n)
+  where
+    go : (p : ℕ) (c : Bool) → ltb p n ≡ c → (b : Bool) → cond c p (cond b n (suc n)) ≤ suc n
+    go p true e b = omega (arith, ltb-true p n e)
+    go p false e true = omega arith
+    go p false e false = le-refl (suc n)
 
 last-upto : (n : ℕ) (b : Bool) → T b → cond b n (suc n) ≤ n
 last-upto n true t = le-refl n

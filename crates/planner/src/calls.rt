@@ -1,8 +1,8 @@
 // The two calls: `plan` and `row`.
-use crate::rows::fill;
-use crate::sizes::sizes_of;
+use crate::slots::fill;
 use model::Sheet;
 use queues::table;
+use rows::sizes_of;
 use sheets::place;
 use sheets::row_refusal;
 use sheets::sheet_refusal;

@@ -14,7 +14,7 @@ use Rattle.process.specs.Sums.{sum}
 use Rattle.process.proofs.Sums.{sum-same}
 use Rattle.model.specs.Queue.{Queue, total, queueIn, bearable, bearableQueues, queueCount, numberOf, continuationCount}
 use Rattle.model.proofs.Queues.{length-in, bearable-at, bearable-all, bearable-upto, listed-bearable, number-below, number-place, number-of-place, queue-count}
-use Rattle.queues.specs.Blocks.{queueWith, blockOf, lastOf, firstOf, startOf, lowestOf, InBlock, Alike, Shifted, risen}
+use Rattle.queues.specs.Blocks.{queueWith, blockOf, lastOf, firstOf, startOf, lowestOf, numberIn, InBlock, Alike, Shifted, risen}
 use Rattle.queues.specs.Order.{earlierAt}
 use Rattle.queues.specs.Slot.{kept}
 use Rattle.queues.proofs.Numbering.{number-sum}
@@ -258,7 +258,7 @@ module _ (M d b : ℕ) (h : b < queueCount M d) where
 
     -- stands as much behind the first one as its last total is higher
     number-behind : T (bearable M w) → lowestOf M (suc d) b ≤ total w (suc d) →
-        numberOf M w ≡ startOf M (suc d) b + (total w (suc d) - lowestOf M (suc d) b)
+        numberOf M w ≡ numberIn M (suc d) b (total w (suc d))
     number-behind t low =
         omega (
           arith,
@@ -277,7 +277,7 @@ before-same M d b n l e =
 
 -- the queue of the block with another last total
 module _ (M d b x n : ℕ) (h : b < queueCount M d) (low : lowestOf M (suc d) b ≤ x) (high : x ≤ suc d * M)
-    (e : n ≡ startOf M (suc d) b + (x - lowestOf M (suc d) b)) where
+    (e : n ≡ numberIn M (suc d) b x) where
   abbrev other : Queue
   other = ended (queueWith M d b) x
 
@@ -314,7 +314,7 @@ module _ (M d b x n : ℕ) (h : b < queueCount M d) (low : lowestOf M (suc d) b 
 
 module _ (M : ℕ) where
   -- so far behind its first queue stands the one with a last total that is as much higher
-  pub block-place : (d b x n : ℕ) → b < queueCount M (pred d) → lowestOf M d b ≤ x → x ≤ d * M → n ≡ startOf M d b + (x - lowestOf M d b) →
+  pub block-place : (d b x n : ℕ) → b < queueCount M (pred d) → lowestOf M d b ≤ x → x ≤ d * M → n ≡ numberIn M d b x →
       InBlock M d b (suc x) n × (lastOf M d n ≡ x)
   block-place zero b x n h low high e =
       let none : x ≡ 0 = omega (arith, zero-mul M) in
@@ -332,7 +332,7 @@ module _ (M : ℕ) where
 
   -- and each queue of the block stands so
   pub in-block : (d b n : ℕ) → b < queueCount M (pred d) → n < queueCount M d → blockOf M d n ≡ b →
-      (lowestOf M d b ≤ lastOf M d n) × (lastOf M d n ≤ d * M) × (n ≡ startOf M d b + (lastOf M d n - lowestOf M d b))
+      (lowestOf M d b ≤ lastOf M d n) × (lastOf M d n ≤ d * M) × (n ≡ numberIn M d b (lastOf M d n))
   in-block zero b n h l e = (zero-le, zero-le, omega (arith, none-below M n l, number-empty))
     where
       number-empty : numberOf M [] ≡ 0

@@ -33,6 +33,10 @@ startOf M d b = numberOf M (firstOf M d b)
 abbrev pub lowestOf : ℕ → ℕ → ℕ → ℕ
 lowestOf M d b = total (queueWith M (pred d) b) (pred d)
 
+-- the number of the queue of block b that has the last total x
+abbrev pub numberIn : ℕ → ℕ → ℕ → ℕ → ℕ
+numberIn M d b x = startOf M d b + (x - lowestOf M d b)
+
 -- the queue with number n is one, and in one of the first b blocks
 pub record InBlocks (M d b n : ℕ) : Type 0 where
   pub within : n < queueCount M d

@@ -7,7 +7,7 @@ use mathlib.Core.Logic.{_⊎_, inl, inr, ⊎-elim}
 use native.Mathlib.Nat.{not-suc-le-zero, eq-or-lt-of-le}
 use native.Mathlib.Omega.{arith}
 use Rattle.model.specs.Queue.{queueCount}
-use Rattle.queues.specs.Blocks.{startOf, lowestOf, lastOf, blockOf, InBlock, InBlocks}
+use Rattle.queues.specs.Blocks.{lowestOf, lastOf, blockOf, numberIn, InBlock, InBlocks}
 use Rattle.queues.proofs.Blocks.{block-below, block-place, in-block}
 use Rattle.value.specs.Fills.{Fills, FillsWhere}
 use Rattle.value.proofs.Filling.{Local, where-none, where-one, where-joined, where-all}
@@ -24,7 +24,7 @@ module _ {A : Type 0} (places : ℕ) (reader : List ℕ → ℕ → A) (local : 
 
     -- one queue more
     pub block-more : (x n : ℕ) {next : ℕ} {g : ℕ → A} {l₀ l₁ l₂ : List ℕ} → lowestOf M d b ≤ x → x ≤ d * M →
-        n ≡ startOf M d b + (x - lowestOf M d b) → next ≡ from + n → g 0 ≡ f n →
+        n ≡ numberIn M d b x → next ≡ from + n → g 0 ≡ f n →
         FillsWhere places reader f from (InBlock M d b x) l₀ l₁ → Fills places reader g next 1 l₁ l₂ →
         FillsWhere places reader f from (InBlock M d b (suc x)) l₀ l₂
     block-more x n low high e here same so-far fill =

@@ -1,9 +1,6 @@
 // All the rows: the end row, and then slot after slot from the last one back, each from the row of the next.
-use crate::ahead::fill_ahead;
-use crate::choose::fill_row;
-use crate::sizes::Sizes;
-use crate::sizes::Slot;
 use model::Sheet;
+use rows::Sizes;
 use sheets::place;
 use sheets::weights;
 use value::Value;
@@ -16,7 +13,19 @@ ghost use Rattle.model.specs.Plan.{valuesNeeded, planNeeded};
 ghost use Rattle.value.specs.Fills.{Fills};
 ghost use Rattle.value.specs.Narrow.{width, valueOf};
 ghost use Rattle.value.specs.Width.{readAt};
-ghost use Rattle.planner.specs.Passes.{ValueRow, Prepared, Ready, Planned, PlannedFrom};
+ghost use Rattle.ahead.specs.Lanes.{EntryTable};
+ghost use Rattle.choose.specs.Lanes.{SpeedTable};
+ghost use Rattle.planner.specs.Passes.{aheadOf, queueAfter, ValueRow, AheadRow, Prepared, Ready, Planned, PlannedFrom};
+
+// Of a slot: how many slots are left after it, the places where its row of values, the next slot's row of values and its row of the plan
+// begin, and W to the power of the slots left, this one counted.
+pub struct Slot {
+    pub left: u32,
+    pub this: usize,
+    pub next: usize,
+    pub row: usize,
+    pub scale: Value,
+}
 
 // The end row: after the last slot remaining work costs nothing.
 fn fill_end(queues: usize, from: usize, values: &mut [u64])
@@ -46,24 +55,54 @@ fn slot_with(queues: usize, horizon: u32, left: u32, scale: Value) -> Slot
     }
 }
 
-// One slot: both passes.
-fn fill_slot(
+// The first pass over the next slot's values: what is ahead of every queue after the slot, from the buffer's first place on.
+fn fill_ahead(
     counts: &[u32; 2352],
     sheet: Sheet,
     sizes: Sizes,
     slot: Slot,
+    values: &[u64],
     ahead: &mut [u64],
-    values: &mut [u64],
-    plan: &mut [u8],
+    lanes: &[u32],
 )
     requires { ⌜ Ready (now counts) (counted sheet) sizes (slot .left) (valueOf (slot .scale)) ×
-        ValueRow width (counted sheet) (slot .left) (slot .next) (now values) × (sizes .after * width .places ≤ length (now ahead)) ×
-        ((slot .this + sizes .queues) * width .places ≤ length (now values)) × (slot .row + sizes .queues ≤ length (now plan)) ⌝ }
+        ValueRow width (counted sheet) (slot .left) (slot .next) (now values) × (sizes .after * width .places ≤ length (now ahead)) ⌝ }
+    requires lanes { ⌜ EntryTable (sizes .largest) (sizes .bound) (counted sheet) (now lanes) ⌝ }
+    ensures { λ r. ⌜ Fills (width .places) (readAt width) (λ i. aheadOf (counted sheet) (slot .left) (queueAfter (counted sheet) i))
+        0 (sizes .after) (now (ahead .entry)) (now (ahead .exit)) ⌝ }
+{
+    ahead::fill(sheet, sizes, lanes, slot.next, values, ahead);
+}
+
+// The second pass over what is ahead: the slot's row of values and its row of the plan.
+fn fill_row(
+    counts: &[u32; 2352],
+    sheet: Sheet,
+    sizes: Sizes,
+    slot: Slot,
+    ahead: &[u64],
+    values: &mut [u64],
+    plan: &mut [u8],
+    lanes: &[u32],
+)
+    requires { ⌜ Ready (now counts) (counted sheet) sizes (slot .left) (valueOf (slot .scale)) ×
+        AheadRow width (counted sheet) (slot .left) (now ahead) × ((slot .this + sizes .queues) * width .places ≤ length (now values)) ×
+        (slot .row + sizes .queues ≤ length (now plan)) ⌝ }
+    requires lanes { ⌜ SpeedTable (sizes .largest) (sizes .bound) (counted sheet) (now lanes) ⌝ }
     ensures { λ r. ⌜ Planned width (counted sheet) (slot .left) (slot .this) (slot .row)
         (now (values .entry)) (now (plan .entry)) (now (values .exit)) (now (plan .exit)) ⌝ }
 {
-    fill_ahead(counts, sheet, sizes, slot, values, ahead);
-    fill_row(counts, sheet, sizes, slot, ahead, values, plan);
+    choose::fill(
+        sheet,
+        sizes,
+        slot.scale,
+        lanes,
+        ahead,
+        slot.this,
+        slot.row,
+        values,
+        plan,
+    );
 }
 
 // Every slot, the last one first. There are at most 7,084 queues after a slot where there are at most 65,535 queues.
@@ -74,6 +113,10 @@ fn fill_slots(counts: &[u32; 2352], sheet: Sheet, sizes: Sizes, values: &mut [u6
     ensures { λ r. ⌜ PlannedFrom width (counted sheet) (sheet .horizon)
         (now (values .entry)) (now (plan .entry)) (now (values .exit)) (now (plan .exit)) ⌝ }
 {
+    let mut speed_lanes = [0; 49606];
+    let mut entry_lanes = [0; 33979];
+    choose::fill_table(counts, sheet, sizes, &mut speed_lanes);
+    ahead::fill_table(counts, sheet, sizes, &mut entry_lanes);
     // 7,084 values, at one place each
     let mut ahead = [0; 7084];
     let weight_sum = weights(sheet);
@@ -82,7 +125,17 @@ fn fill_slots(counts: &[u32; 2352], sheet: Sheet, sizes: Sizes, values: &mut [u6
     while left < sheet.horizon {
         let next_scale = value::add(value::of(0), weight_sum, scale);
         let slot = slot_with(sizes.queues, sheet.horizon, left, next_scale);
-        fill_slot(counts, sheet, sizes, slot, &mut ahead, values, plan);
+        fill_ahead(counts, sheet, sizes, slot, values, &mut ahead, &entry_lanes);
+        fill_row(
+            counts,
+            sheet,
+            sizes,
+            slot,
+            &ahead,
+            values,
+            plan,
+            &speed_lanes,
+        );
         scale = next_scale;
         left += 1;
     }

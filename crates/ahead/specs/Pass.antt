@@ -1,0 +1,38 @@
+-- What the functions of the first pass ask and leave, over any width of a value and whatever the row says.
+use Prim.Native.Nat.{ℕ, pred, _+_, _*_, _≤_, _<_}
+use mathlib.Core.Path.{_≡_}
+use mathlib.Core.List.{List}
+use mathlib.Core.Option.{Option}
+use lib.ListN.{length}
+use Rattle.model.specs.Counted.{Counted}
+use Rattle.model.specs.Refusal.{fieldsRefusal}
+use Rattle.queues.specs.Blocks.{startOf, lowestOf}
+use Rattle.value.specs.Width.{Width, Below}
+use Rattle.rows.specs.Rows.{valueInRow}
+use Rattle.rows.specs.Sizes.{Measured}
+use Rattle.rows.specs.declared.sizes.Sizes.{Sizes}
+use Rattle.ahead.specs.Lanes.{EntryTable}
+use Rattle.ahead.specs.Sums.{afterWith, sumTo}
+
+-- what is ahead of the queue after a slot with number i, over the first n entries, by the row that begins at place `next`
+abbrev pub sumLeft : Width → Counted → Sizes → ℕ → List ℕ → ℕ → ℕ → Option ℕ
+sumLeft width s sizes next values i n =
+    sumTo s (valueInRow width (sizes .largest) values next) (afterWith (sizes .largest) (sizes .bound) i) n
+
+-- what the pass is given: a sheet whose fields are in range, its sizes and its table, and a row of which no sum over some first entries
+-- reaches the limit of a value
+pub record Given (width : Width) (s : Counted) (sizes : Sizes) (lanes : List ℕ) (next : ℕ) (values : List ℕ) : Type 0 where
+  pub fields : fieldsRefusal s ≡ 0
+  pub measured : Measured sizes
+  pub table : EntryTable (sizes .largest) (sizes .bound) s lanes
+  pub room : (next + sizes .queues) * width .places ≤ length values
+  pub fits : (i n : ℕ) → i < sizes .after → n ≤ s .jobCount → Below (width .limit) (sumLeft width s sizes next values i n)
+
+-- so many steps from its first queue on block b has a queue
+pub record Within (sizes : Sizes) (b k : ℕ) : Type 0 where
+  pub block-low : b < sizes .blocks
+  pub steps-high : lowestOf (sizes .largest) (pred (sizes .bound)) b + k ≤ pred (sizes .bound) * sizes .largest
+
+-- its number
+abbrev pub stepped : Sizes → ℕ → ℕ → ℕ
+stepped sizes b k = startOf (sizes .largest) (pred (sizes .bound)) b + k

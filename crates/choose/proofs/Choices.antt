@@ -1,0 +1,78 @@
+-- Laws of the least over the speeds (specs/Choice.antt), one speed more at a time.
+use Prim.Native.Nat.{ℕ, zero, suc, _+_, _≤_, _<_}
+use mathlib.Core.Path.{_≡_, refl, sym, ap, _∙_, subst}
+use mathlib.Core.Bool.{Bool, true, false}
+use mathlib.Core.Option.{Option, none, some}
+use native.Mathlib.Numerals.{add-one}
+use native.Mathlib.Omega.{arith}
+use lib.Dec.{T, ltb}
+use Rattle.process.specs.Recursion.{Choice, nothing, chosen, choose, cheaper, better}
+use Rattle.process.proofs.Equations.{cheaper-is}
+use Rattle.value.specs.Width.{lessThan}
+use Rattle.choose.specs.Choice.{leastTo, byteOf, IsChoice, IsBetter}
+
+-- one speed more
+
+-- a speed that costs less than the least so far is the least
+pub better-taken : (before : ℕ) (r : Option ℕ) (speed : ℕ) (cost : Option ℕ) → lessThan cost r ≡ true →
+    IsBetter before r speed cost speed cost
+better-taken before r speed none e c i = absurd (subst T (sym e) tt)
+better-taken before r speed (some v) e nothing i = record { speed-is = refl; value-is = refl }
+better-taken before r speed (some v) e (chosen b u) i =
+    let less : ltb v u ≡ true = ap (lessThan (some v)) (sym (i .value-is)) ∙ e in
+    subst (λ (x : Bool). IsChoice (choose x (chosen speed v) (chosen b u)) speed (some v)) (sym (cheaper-is v u ∙ less))
+    (record { speed-is = refl; value-is = refl })
+
+-- any other leaves the least as it is
+pub better-left : (before : ℕ) (r : Option ℕ) (speed : ℕ) (cost : Option ℕ) → lessThan cost r ≡ false →
+    IsBetter before r speed cost before r
+better-left before r speed none e c i = i
+better-left before r speed (some v) e nothing i = absurd (subst T (ap (lessThan (some v)) (sym (i .value-is)) ∙ e) tt)
+better-left before r speed (some v) e (chosen b u) i =
+    let less : ltb v u ≡ false = ap (lessThan (some v)) (sym (i .value-is)) ∙ e in
+    subst (λ (x : Bool). IsChoice (choose x (chosen speed v) (chosen b u)) before r) (sym (cheaper-is v u ∙ less)) i
+
+-- several
+
+module _ (speed : ℕ → ℕ) (cost : ℕ → Option ℕ) where
+  -- of speeds that all cost none there is no least
+  nothing-least : (k : ℕ) → ((j : ℕ) → j < k → cost j ≡ none) → leastTo speed cost k ≡ nothing
+  unfolding leastTo
+  nothing-least zero dear = refl
+  nothing-least (suc k) dear =
+      ap (λ (c : Choice). better c (speed k) (cost k)) (nothing-least k (λ j h. dear j (omega arith))) ∙
+      ap (better nothing (speed k)) (dear k (omega arith))
+
+  -- so that the search may begin behind them
+  pub least-begun : (k : ℕ) {r : Option ℕ} → ((j : ℕ) → j < k → cost j ≡ none) → r ≡ none → IsChoice (leastTo speed cost k) 255 r
+  least-begun k {r} dear e =
+      subst (λ (c : Choice). IsChoice c 255 r) (sym (nothing-least k dear)) (record { speed-is = refl; value-is = e })
+
+  -- one more
+  pub least-more : (j : ℕ) {before a best : ℕ} {r here q : Option ℕ} → a ≡ speed j → here ≡ cost j → IsChoice (leastTo speed cost j) before r →
+      IsBetter before r a here best q → IsChoice (leastTo speed cost (j + 1)) best q
+  unfolding leastTo
+  least-more j {a = a} {best = best} {q = q} e d so-far more =
+      rw add-one
+      (subst (λ (x : ℕ). IsChoice (better (leastTo speed cost j) x (cost j)) best q) e
+      (subst (λ (p : Option ℕ). IsChoice (better (leastTo speed cost j) a p) best q) d (more (leastTo speed cost j) so-far)))
+
+  -- all
+  pub least-whole : (j n : ℕ) {best : ℕ} {q : Option ℕ} → j ≡ n → IsChoice (leastTo speed cost j) best q → IsChoice (leastTo speed cost n) best q
+  least-whole j n {best} {q} e i = subst (λ (k : ℕ). IsChoice (leastTo speed cost k) best q) e i
+
+  -- as the code keeps it, the least has a speed that fits a byte where every speed does
+  pub least-small : (n : ℕ) → ((j : ℕ) → j < n → speed j ≤ 255) → byteOf (leastTo speed cost n) ≤ 255
+  unfolding leastTo
+  least-small zero small = omega arith
+  least-small (suc n) small =
+      go (leastTo speed cost n) (cost n) (least-small n (λ j h. small j (omega arith))) (small n (omega arith))
+    where
+      go : (c : Choice) (r : Option ℕ) → byteOf c ≤ 255 → speed n ≤ 255 → byteOf (better c (speed n) r) ≤ 255
+      go c none h k = h
+      go nothing (some v) h k = k
+      go (chosen b u) (some v) h k = pick (cheaper v u)
+        where
+          pick : (t : Bool) → byteOf (choose t (chosen (speed n) v) (chosen b u)) ≤ 255
+          pick true = k
+          pick false = h

@@ -1,0 +1,42 @@
+-- What a speed costs in a queue (specs/Choice.antt), by whether it leads on.
+use Prim.Native.Nat.{ℕ}
+use mathlib.Core.Path.{_≡_, refl, sym, ap, _∙_}
+use mathlib.Core.Bool.{Bool, true, false, _&&_}
+use mathlib.Core.List.{List}
+use mathlib.Core.Option.{Option, none}
+use native.Mathlib.Nat.{zero-add}
+use borrow.Author.Tests.{le-leb}
+use lib.Dec.{T, leb}
+use Rattle.process.specs.Recursion.{plus, times, only}
+use Rattle.model.specs.Queue.{Queue, total, bearable, numberOf}
+use Rattle.model.proofs.Tests.{holds-true}
+use Rattle.value.specs.Width.{Width, readAt}
+use Rattle.rows.specs.Rows.{valueInRow}
+use Rattle.rows.proofs.Rows.{none-in-row, read-in-row}
+use Rattle.choose.specs.Choice.{costIn}
+use Rattle.choose.specs.Lanes.{afterOf, leadsOn}
+use Rattle.choose.proofs.Lanes.{leads-parts}
+
+module _ (width : Width) (M D : ℕ) (ahead : List ℕ) (scale : Option ℕ) (w : Queue) (speed energy : ℕ) where
+  -- none where it does not
+  pub cost-none : leadsOn M D w speed ≡ false → costIn width M D ahead scale w speed energy ≡ none
+  unfolding costIn
+  cost-none e = go (leb (total w 1) speed) refl
+    where
+      go : (b : Bool) → leb (total w 1) speed ≡ b → only b (plus (valueInRow width M ahead 0 (afterOf D w speed)) (times energy scale)) ≡ none
+      go true q =
+          ap (λ (r : Option ℕ). plus r (times energy scale))
+          (none-in-row width M ahead 0 (afterOf D w speed) (ap (λ (b : Bool). b && bearable M (afterOf D w speed)) (sym q) ∙ e))
+      go false q = refl
+
+  -- else what the buffer has at the number of the queue after the slot, and the scaled energy
+  pub cost-some : T (leadsOn M D w speed) →
+      costIn width M D ahead scale w speed energy ≡ plus (readAt width ahead (numberOf M (afterOf D w speed))) (times energy scale)
+  unfolding costIn
+  cost-some t =
+      let parts = leads-parts M D w speed t in
+      ap (λ (b : Bool). only b (plus (valueInRow width M ahead 0 (afterOf D w speed)) (times energy scale)))
+      (le-leb (total w 1) speed (parts .0)) ∙
+      ap (λ (r : Option ℕ). plus r (times energy scale))
+      (read-in-row width M ahead 0 (afterOf D w speed) (holds-true (bearable M (afterOf D w speed)) (parts .1)) ∙
+      ap (readAt width ahead) (zero-add (numberOf M (afterOf D w speed))))

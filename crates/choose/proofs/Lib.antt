@@ -1,0 +1,4 @@
+pub mod Lanes
+pub mod Costs
+pub mod Choices
+pub mod Passing

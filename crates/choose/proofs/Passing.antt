@@ -1,0 +1,146 @@
+-- What the table and the buffer say in the queue of a block that has a last total: the proofs of src/least.rt and src/row.rt stand on these
+-- laws, which are over any width of a value.
+use Prim.Native.Nat.{ℕ, suc, pred, max, _+_, _-_, _*_, _≤_, _<_}
+use mathlib.Core.Path.{_≡_, refl, sym, ap, _∙_, subst}
+use mathlib.Core.Bool.{Bool, true, false}
+use mathlib.Core.List.{List}
+use mathlib.Core.Logic.{_⊎_, inl, inr}
+use mathlib.Core.Option.{Option, none}
+use native.Mathlib.Nat.{add-zero, eq-or-lt-of-le, le-refl}
+use native.Mathlib.Omega.{arith}
+use lib.Dec.{T}
+use lib.ListN.{length, getD}
+use Rattle.process.specs.Recursion.{plus, times}
+use Rattle.model.specs.Counted.{Counted, speedAt, energyAt}
+use Rattle.model.specs.Queue.{Queue, total, bearable, queueCount, numberOf, run}
+use Rattle.model.proofs.Counted.{later-faster}
+use Rattle.model.proofs.Queues.{bearable-at, listed-bearable, number-below, length-in, length-run}
+use Rattle.model.proofs.Refusal.{Ranged, ranged}
+use Rattle.model.proofs.Tests.{same-test, first-holds, first-upto, first-within}
+use Rattle.queues.specs.Blocks.{queueWith, firstOf, startOf, lowestOf, lastOf, numberIn, InBlock, Alike}
+use Rattle.queues.proofs.Blocks.{block-place, block-alike, first-queue}
+use Rattle.value.specs.Width.{Width, readAt}
+use Rattle.rows.specs.Tables.{lineAt}
+use Rattle.rows.specs.declared.sizes.Sizes.{Sizes}
+use Rattle.choose.specs.Choice.{costAt}
+use Rattle.choose.specs.Lanes.{afterOf, leadsOn, slowestIn, laneOf, Lane}
+use Rattle.choose.specs.Pass.{Given, Within}
+use Rattle.choose.proofs.Costs.{cost-none, cost-some}
+use Rattle.choose.proofs.Lanes.{leads-parts, leads-carries, leads-nowhere, lane-says}
+
+module _ {width : Width} {s : Counted} {sizes : Sizes} {scale : Option ℕ} {lanes ahead : List ℕ} (given : Given width s sizes scale lanes ahead) where
+  -- the sheet keeps its ranges
+  pub in-range : Ranged s
+  in-range = ranged s (given .fields)
+
+  module _ (b : ℕ) (block : b < sizes .after) where
+    abbrev M : ℕ
+    M = sizes .largest
+
+    abbrev D : ℕ
+    D = sizes .bound
+
+    abbrev first : Queue
+    first = firstOf M D b
+
+    pub block-low : b < queueCount M (pred D)
+    block-low = omega (arith, given .measured .after-is)
+
+    first-is : (length first ≡ D) × T (bearable M first) × (total first D ≡ lowestOf M D b)
+    first-is = first-queue M D b (given .measured .bound-low) block-low
+
+    -- what stands in the line of the block
+
+    pub line-start : getD lanes (lineAt 9 (s .speedCount) b) 0 ≡ startOf M D b
+    line-start =
+        ap (λ (p : ℕ). getD lanes p 0) (sym (add-zero (lineAt 9 (s .speedCount) b))) ∙
+        given .table .lines .right b 0 block-low (omega arith)
+
+    pub line-lowest : getD lanes (lineAt 9 (s .speedCount) b + 1) 0 ≡ lowestOf M D b
+    line-lowest = given .table .lines .right b 1 block-low (omega arith)
+
+    pub line-slowest : getD lanes (lineAt 9 (s .speedCount) b + 2) 0 ≡ slowestIn M D s first
+    line-slowest = given .table .lines .right b 2 block-low (omega arith)
+
+    pub line-lane : (j : ℕ) → j < s .speedCount → getD lanes (lineAt 9 (s .speedCount) b + 3 + j) 0 ≡ laneOf M D first (speedAt s j)
+    line-lane j h =
+        let place : lineAt 9 (s .speedCount) b + 3 + j ≡ lineAt 9 (s .speedCount) b + suc (suc (suc j)) = omega arith in
+        ap (λ (p : ℕ). getD lanes p 0) place ∙ given .table .lines .right b (suc (suc (suc j))) block-low (omega arith)
+
+    -- the place of the slowest speed is no more than there are speeds, and from it on every speed leads on from the first queue
+
+    pub leads-from : (j : ℕ) → slowestIn M D s first ≤ j → j < s .speedCount → T (leadsOn M D first (speedAt s j))
+    leads-from j low h =
+        let k = slowestIn M D s first in
+        let there = first-holds (λ i. leadsOn M D first (speedAt s i)) (s .speedCount) (omega arith) in
+        leads-carries M D first first (speedAt s k) (speedAt s j) (given .measured .bound-low) (first-is .0) (first-is .0)
+        (λ u l. bearable-at M first (first-is .1) u l .0) (λ u. le-refl (total first u)) (faster k (eq-or-lt-of-le low)) there
+      where
+        faster : (k : ℕ) → (k ≡ j) ⊎ (k < j) → speedAt s k ≤ speedAt s j
+        faster k (inl q) = omega (arith, ap (speedAt s) q)
+        faster k (inr l) = omega (arith, later-faster s (in-range .rises) k j l h)
+
+    module _ (x : ℕ) (inside : Within sizes b x) where
+      abbrev w : Queue
+      w = queueWith M D (numberIn M D b x)
+
+      placed : InBlock M D b (suc x) (numberIn M D b x) × (lastOf M D (numberIn M D b x) ≡ x)
+      placed = block-place M D b x (numberIn M D b x) block-low (inside .last-low) (inside .last-high) refl
+
+      alike : Alike D first w
+      alike = block-alike M D b (numberIn M D b x) (given .measured .bound-low) block-low (placed .0 .within) (placed .0 .block-is)
+
+      later : total first D ≤ total w D
+      later = omega (arith, first-is .2, placed .1, inside .last-low)
+
+      -- the queue's number is one
+      pub number-low : numberIn M D b x < sizes .queues
+      number-low = omega (arith, placed .0 .within, given .measured .queues-is)
+
+      -- a speed before the slowest that leads on costs none
+      pub slower-none : (j : ℕ) → j < slowestIn M D s first → costAt width M D s ahead scale w j ≡ none
+      slower-none j h =
+          cost-none width M D ahead scale w (speedAt s j) (energyAt s j)
+          (leads-nowhere M D first w (speedAt s j) (given .measured .bound-low) alike (first-is .1) later
+          (same-test (leadsOn M D first (speedAt s j)) false
+          (λ t. omega (arith, first-upto (λ i. leadsOn M D first (speedAt s i)) (s .speedCount) j within t)) (λ f. absurd f)))
+        where
+          within : j < s .speedCount
+          within = omega (arith, first-within (λ i. leadsOn M D first (speedAt s i)) (s .speedCount))
+
+      -- every other has a lane
+      module _ (j : ℕ) (low : slowestIn M D s first ≤ j) (h : j < s .speedCount) where
+        abbrev found : ℕ
+        found = laneOf M D first (speedAt s j) + (x - max (speedAt s j) (lowestOf M D b))
+
+        lane : Lane M D w (speedAt s j) (laneOf M D first (speedAt s j)) (max (speedAt s j) (lowestOf M D b))
+        lane =
+            subst (λ (y : ℕ). Lane M D w (speedAt s j) (laneOf M D first (speedAt s j)) (max (speedAt s j) y)) (first-is .2)
+            (lane-says M D first w (speedAt s j) (given .measured .bound-low) alike later (leads-from j low h))
+
+        -- past its end the speed costs none
+        pub cost-past : pred D * M + speedAt s j < x → costAt width M D s ahead scale w j ≡ none
+        cost-past past = cost-none width M D ahead scale w (speedAt s j) (energyAt s j) (lane .ends (omega (arith, placed .1)))
+
+        -- before it what the buffer has where the lane leads, and the scaled energy
+        module _ (before : x ≤ pred D * M + speedAt s j) where
+          goes : T (leadsOn M D w (speedAt s j)) × (numberOf M (afterOf D w (speedAt s j)) ≡ found)
+          goes =
+              let g = lane .goes (omega (arith, placed .1)) in
+              (g .0, g .1 ∙ ap (λ (y : ℕ). laneOf M D first (speedAt s j) + (y - max (speedAt s j) (lowestOf M D b))) (placed .1))
+
+          pub cost-there : costAt width M D s ahead scale w j ≡ plus (readAt width ahead found) (times (energyAt s j) scale)
+          cost-there =
+              cost-some width M D ahead scale w (speedAt s j) (energyAt s j) (goes .0) ∙
+              ap (λ (n : ℕ). plus (readAt width ahead n) (times (energyAt s j) scale)) (goes .1)
+
+          pub found-low : found < sizes .after
+          found-low =
+              let shorter : length (afterOf D w (speedAt s j)) ≡ pred D =
+              length-in (pred D) (run w (speedAt s j)) (omega (arith, length-run w (speedAt s j), alike .long-too)) in
+              omega (
+                arith,
+                number-below M (afterOf D w (speedAt s j)) shorter (leads-parts M D w (speedAt s j) (goes .0) .1),
+                goes .1,
+                given .measured .after-is,
+              )

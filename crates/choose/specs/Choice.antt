@@ -1,0 +1,44 @@
+-- What the second pass works out in one queue: what each speed costs, by a buffer of what is ahead after a slot, and the least over the
+-- speeds. It is said over any width of a value, and of whatever the buffer says.
+use Prim.Native.Nat.{ℕ, zero, suc, pred}
+use mathlib.Core.Path.{_≡_}
+use mathlib.Core.List.{List}
+use mathlib.Core.Option.{Option}
+use lib.Dec.{leb}
+use Rattle.process.specs.Recursion.{plus, times, only, Choice, nothing, chosen, better, worth}
+use Rattle.model.specs.Counted.{Counted, speedAt, energyAt}
+use Rattle.model.specs.Plan.{noSpeed}
+use Rattle.model.specs.Queue.{Queue, total, queueIn, run}
+use Rattle.value.specs.Width.{Width}
+use Rattle.rows.specs.Rows.{valueInRow}
+
+-- what a speed costs in a queue of D positions, where `ahead` is the buffer of what is ahead: the scaled energy and what is ahead after it
+unfoldable pub costIn : Width → ℕ → ℕ → List ℕ → Option ℕ → Queue → ℕ → ℕ → Option ℕ
+costIn width largest D ahead scale w speed energy =
+    only (leb (total w 1) speed) (plus (valueInRow width largest ahead 0 (queueIn (pred D) (run w speed))) (times energy scale))
+
+-- the least over the first j of several speeds at their costs; of two that cost the same the first
+unfoldable pub leastTo : (ℕ → ℕ) → (ℕ → Option ℕ) → ℕ → Choice
+leastTo speed cost zero = nothing
+leastTo speed cost (suc j) = better (leastTo speed cost j) (speed j) (cost j)
+
+-- what the speed at place j of the sheet costs
+abbrev pub costAt : Width → ℕ → ℕ → Counted → List ℕ → Option ℕ → Queue → ℕ → Option ℕ
+costAt width largest D s ahead scale w j = costIn width largest D ahead scale w (speedAt s j) (energyAt s j)
+
+-- the least over the speeds of the sheet
+abbrev pub leastIn : Width → ℕ → ℕ → Counted → List ℕ → Option ℕ → Queue → Choice
+leastIn width largest D s ahead scale w = leastTo (speedAt s) (costAt width largest D s ahead scale w) (s .speedCount)
+
+-- a choice as the code keeps it: a speed, 255 where there is none, and a value
+abbrev pub byteOf : Choice → ℕ
+byteOf nothing = noSpeed
+byteOf (chosen a v) = a
+
+pub record IsChoice (c : Choice) (speed : ℕ) (r : Option ℕ) : Type 0 where
+  pub speed-is : speed ≡ byteOf c
+  pub value-is : r ≡ worth c
+
+-- one speed more: whatever the choice was before, it is now the better of that and this speed at its cost
+abbrev pub IsBetter : ℕ → Option ℕ → ℕ → Option ℕ → ℕ → Option ℕ → Type 0
+IsBetter before r a cost speed q = (c : Choice) → IsChoice c before r → IsChoice (better c a cost) speed q
