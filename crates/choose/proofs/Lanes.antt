@@ -4,25 +4,36 @@
 use Prim.Native.Nat.{ℕ, zero, suc, pred, min, max, _+_, _-_, _*_, _≤_, _<_, zero-le}
 use mathlib.Core.Path.{_≡_, refl, sym, ap, _∙_, subst}
 use mathlib.Core.Bool.{Bool, true, false, cond, _&&_}
-use mathlib.Core.Logic.{_⊎_, inl, inr, ⊎-elim}
+use mathlib.Core.List.{List}
+use mathlib.Core.Logic.{_⊎_, inl, inr}
 use native.Mathlib.Nat.{not-suc-le-zero, eq-or-lt-of-le, le-refl}
 use native.Mathlib.Omega.{arith}
-use borrow.Author.Tests.{ltb-true, ltb-false}
+use borrow.Author.Tests.{ltb-true, ltb-false, le-leb, lt-leb}
 use lib.Dec.{T, leb, ltb, leb→le, le→leb}
 use lib.ListN.{length}
-use Rattle.model.specs.Queue.{Queue, total, NeverFalls, NoLonger, queueIn, bearable, numberOf, run}
+use Rattle.model.specs.Queue.{Queue, total, NeverFalls, NoLonger, queueIn, placesOf, bearable, numberOf, run}
 use Rattle.model.proofs.Longer.{run-never-falls, bearable-carries}
 use Rattle.model.proofs.Queues.{length-run, total-run, total-past, length-in, bearable-at}
 use Rattle.model.proofs.Tests.{and-left, and-right, and-both, same-test, holds-true}
 use Rattle.queues.specs.Blocks.{Alike}
 use Rattle.queues.proofs.Blocks.{number-last, bearable-with}
-use Rattle.queues.proofs.Places.{total-in}
+use Rattle.queues.proofs.Places.{total-in, positions-in}
+use Rattle.rows.proofs.Measures.{one-fewer}
 use Rattle.choose.specs.Lanes.{afterOf, leadsOn, laneOf, Lane}
 
 -- the queue after a slot
 
 length-after : (d : ℕ) (w : Queue) (s : ℕ) → length w ≡ suc d → length (afterOf (suc d) w s) ≡ d
 length-after d w s e = length-in d (run w s) (omega (arith, length-run w s))
+
+-- it stands in the places that `after` answers
+pub after-places : (D : ℕ) (places : List ℕ) (s : ℕ) {left : List ℕ} → 1 ≤ D → D ≤ 6 → length places ≡ 6 →
+    left ≡ placesOf (run (queueIn D places) s) → queueIn (D - 1) left ≡ afterOf D (queueIn D places) s
+after-places D places s low few six e =
+    ap (queueIn (D - 1)) e ∙
+    positions-in (D - 1) (run (queueIn D places) s) (omega arith)
+    (omega (arith, length-run (queueIn D places) s, length-in D places (omega arith))) ∙
+    ap (λ (n : ℕ). queueIn n (run (queueIn D places) s)) (one-fewer D)
 
 -- its totals are those of the next positions, less the speed
 total-after : (d : ℕ) (w : Queue) (s u : ℕ) → length w ≡ suc d → 1 ≤ u → u ≤ d → total (afterOf (suc d) w s) u ≡ total w (suc u) - s
@@ -74,6 +85,14 @@ module _ (M D : ℕ) (w : Queue) (s : ℕ) where
 
   pub leads-both : total w 1 ≤ s → T (bearable M (afterOf D w s)) → T (leadsOn M D w s)
   leads-both h t = and-both (leb (total w 1) s) (bearable M (afterOf D w s)) (le→leb (total w 1) s h) t
+
+  -- a speed below w(1) does not
+  pub leads-slow : s < total w 1 → leadsOn M D w s ≡ false
+  leads-slow h = ap (λ (b : Bool). b && bearable M (afterOf D w s)) (lt-leb (total w 1) s h)
+
+  -- any other where the queue after the slot is bearable
+  pub leads-fast : total w 1 ≤ s → leadsOn M D w s ≡ bearable M (afterOf D w s)
+  leads-fast h = ap (λ (b : Bool). b && bearable M (afterOf D w s)) (le-leb (total w 1) s h)
 
 -- it does in each queue that is nowhere longer, and so does each faster one
 pub leads-carries : (M D : ℕ) (v w : Queue) (s s′ : ℕ) → 1 ≤ D → length v ≡ D → length w ≡ D → NeverFalls v → NoLonger v w → s ≤ s′ →
@@ -149,11 +168,11 @@ lane-says M (suc (suc d)) v w s low a h t =
           let tw = there l in (
             leads-both M (suc (suc d)) w s (omega (arith, leads-parts M (suc (suc d)) v s t .0, a .same 1 (omega arith))) tw,
             omega (
-                arith,
-                number-last M d (afterOf (suc (suc d)) v s) (afterOf (suc (suc d)) w s) next (leads-parts M (suc (suc d)) v s t .1) tw longer,
-                lane-there M (suc (suc d)) v s t,
-                first,
-                last,
+              arith,
+              number-last M d (afterOf (suc (suc d)) v s) (afterOf (suc (suc d)) w s) next (leads-parts M (suc (suc d)) v s t .1) tw longer,
+              lane-there M (suc (suc d)) v s t,
+              first,
+              last,
             ),
           );
       ends = λ l.

@@ -6,25 +6,33 @@ use mathlib.Core.Bool.{Bool, true, false}
 use mathlib.Core.List.{List}
 use mathlib.Core.Logic.{_⊎_, inl, inr}
 use mathlib.Core.Option.{Option, none}
-use native.Mathlib.Nat.{add-zero, eq-or-lt-of-le, le-refl}
+use native.Mathlib.Nat.{add-zero, eq-or-lt-of-le, le-refl, mul-le-mul-right}
+use native.Mathlib.Numerals.{add-one}
 use native.Mathlib.Omega.{arith}
 use lib.Dec.{T}
-use lib.ListN.{length, getD}
+use lib.ListN.{length, getD, set}
 use Rattle.process.specs.Recursion.{plus, times}
 use Rattle.model.specs.Counted.{Counted, speedAt, energyAt}
 use Rattle.model.specs.Queue.{Queue, total, bearable, queueCount, numberOf, run}
 use Rattle.model.proofs.Counted.{later-faster}
-use Rattle.model.proofs.Queues.{bearable-at, listed-bearable, number-below, length-in, length-run}
+use Rattle.model.proofs.Queues.{bearable-at, bearable-upto, number-below, length-in, length-run}
 use Rattle.model.proofs.Refusal.{Ranged, ranged}
 use Rattle.model.proofs.Tests.{same-test, first-holds, first-upto, first-within}
-use Rattle.queues.specs.Blocks.{queueWith, firstOf, startOf, lowestOf, lastOf, numberIn, InBlock, Alike}
+use Rattle.queues.specs.Blocks.{queueWith, firstOf, startOf, lowestOf, lastOf, numberIn, InBlock, InBlocks, Alike}
 use Rattle.queues.proofs.Blocks.{block-place, block-alike, first-queue}
+use Rattle.value.specs.Fills.{Fills, numberAt}
 use Rattle.value.specs.Width.{Width, readAt}
+use Rattle.value.proofs.Filling.{read-local, number-local, fills-same, number-stored}
+use Rattle.rows.specs.Sizes.{Measured}
 use Rattle.rows.specs.Tables.{lineAt}
 use Rattle.rows.specs.declared.sizes.Sizes.{Sizes}
-use Rattle.choose.specs.Choice.{costAt}
+use Rattle.rows.proofs.Blocks.{block-none, block-more, blocks-none, blocks-more, blocks-whole}
+use Rattle.rows.proofs.Measures.{one-fewer, most-total}
+use Rattle.rows.proofs.Tables.{line-within}
+use Rattle.choose.specs.Choice.{costAt, leastIn, IsChoice}
 use Rattle.choose.specs.Lanes.{afterOf, leadsOn, slowestIn, laneOf, Lane}
-use Rattle.choose.specs.Pass.{Given, Within}
+use Rattle.choose.specs.Pass.{Given, Within, valueLeft, byteLeft, Left, LeftWhere, LeftAll}
+use Rattle.choose.proofs.Choices.{least-small}
 use Rattle.choose.proofs.Costs.{cost-none, cost-some}
 use Rattle.choose.proofs.Lanes.{leads-parts, leads-carries, leads-nowhere, lane-says}
 
@@ -32,6 +40,40 @@ module _ {width : Width} {s : Counted} {sizes : Sizes} {scale : Option ℕ} {lan
   -- the sheet keeps its ranges
   pub in-range : Ranged s
   in-range = ranged s (given .fields)
+
+  -- the columns are within the table
+  pub columns-room : 18 ≤ length lanes
+  columns-room = omega (arith, given .table .lines .room)
+
+  -- (D-1) times M as the code works it out
+  pub most-before : (sizes .bound - 1) * sizes .largest ≡ pred (sizes .bound) * sizes .largest
+  most-before = ap (λ (d : ℕ). d * sizes .largest) (one-fewer (sizes .bound))
+
+  pub most-before-small : pred (sizes .bound) * sizes .largest ≤ 48
+  most-before-small =
+      let fewer : pred (sizes .bound) ≤ sizes .bound = omega arith in
+      omega (arith, mul-le-mul-right (sizes .largest) fewer, most-total (given .measured))
+
+  -- the speed and the energy at a place
+  module _ (j : ℕ) (h : j < s .speedCount) where
+    pub speed-read : getD lanes j 0 ≡ speedAt s j
+    speed-read = given .table .columns .firsts j h
+
+    pub energy-read : getD lanes (9 + j) 0 ≡ energyAt s j
+    energy-read = given .table .columns .seconds j h
+
+    pub speed-small : speedAt s j ≤ 8
+    speed-small = in-range .speed-high j h
+
+  -- what is chosen in a queue has a speed that fits a byte
+  pub byte-fits : (w : Queue) {speed : ℕ} {r : Option ℕ} →
+      IsChoice (leastIn width (sizes .largest) (sizes .bound) s ahead scale w) speed r → speed ≤ 255
+  byte-fits w i =
+      omega (
+        arith,
+        i .speed-is,
+        least-small (speedAt s) (costAt width (sizes .largest) (sizes .bound) s ahead scale w) (s .speedCount) (λ j h. omega (arith, speed-small j h)),
+      )
 
   module _ (b : ℕ) (block : b < sizes .after) where
     abbrev M : ℕ
@@ -49,7 +91,15 @@ module _ {width : Width} {s : Counted} {sizes : Sizes} {scale : Option ℕ} {lan
     first-is : (length first ≡ D) × T (bearable M first) × (total first D ≡ lowestOf M D b)
     first-is = first-queue M D b (given .measured .bound-low) block-low
 
-    -- what stands in the line of the block
+    -- its lowest last total is one
+    pub lowest-high : lowestOf M D b ≤ D * M
+    lowest-high = omega (arith, first-is .2, bearable-upto M first (first-is .1) D (omega (arith, first-is .0)))
+
+    -- its line is within the table
+    pub line-room : lineAt 9 (s .speedCount) b + (s .speedCount + 3) ≤ length lanes
+    line-room = line-within 9 (s .speedCount) b (queueCount M (pred D)) block-low (given .table .lines .room)
+
+    -- what stands in it
 
     pub line-start : getD lanes (lineAt 9 (s .speedCount) b) 0 ≡ startOf M D b
     line-start =
@@ -144,3 +194,92 @@ module _ {width : Width} {s : Counted} {sizes : Sizes} {scale : Option ℕ} {lan
                 goes .1,
                 given .measured .after-is,
               )
+
+-- what is chosen in a queue, stored in both rows
+pub left-stored : (width : Width) (s : Counted) (sizes : Sizes) (scale : Option ℕ) (ahead : List ℕ) (this row : ℕ) {n m speed : ℕ} {r : Option ℕ}
+    {values values′ plan : List ℕ} → m ≡ n →
+    IsChoice (leastIn width (sizes .largest) (sizes .bound) s ahead scale (queueWith (sizes .largest) (sizes .bound) n)) speed r →
+    Fills (width .places) (readAt width) (λ i. r) (this + m) 1 values values′ → row + m < length plan →
+    Left width s sizes scale ahead this row n values plan values′ (set plan (row + m) speed)
+left-stored width s sizes scale ahead this row {n} {m} {speed} {values = values} {values′ = values′} {plan = plan} e chosen stored low =
+    record {
+      value-filled =
+          subst (λ (k : ℕ). Fills (width .places) (readAt width) (λ i. valueLeft width s sizes scale ahead n) (this + k) 1 values values′) e
+          (fills-same (width .places) (readAt width) (λ i h. chosen .value-is) stored);
+      byte-filled =
+          subst (λ (k : ℕ). Fills 1 numberAt (λ i. byteLeft width s sizes scale ahead n) (row + k) 1 plan (set plan (row + m) speed)) e
+          (fills-same 1 numberAt (λ i h. chosen .speed-is) (number-stored plan (row + m) speed low));
+    }
+
+-- a row that is filled block by block
+
+module _ (width : Width) (s : Counted) (sizes : Sizes) (scale : Option ℕ) (ahead : List ℕ) (this row : ℕ) where
+  abbrev Done : (ℕ → Type 0) → (values₀ plan₀ values plan : List ℕ) → Type 0
+  Done done values₀ plan₀ values plan = LeftWhere width s sizes scale ahead this row done values₀ plan₀ values plan
+
+  module _ (b : ℕ) (h : b < queueCount (sizes .largest) (pred (sizes .bound))) where
+    -- in a block nothing is filled below its lowest last total
+    pub left-none : {x : ℕ} (values plan : List ℕ) → x ≡ lowestOf (sizes .largest) (sizes .bound) b →
+        Done (InBlock (sizes .largest) (sizes .bound) b x) values plan values plan
+    left-none values plan e =
+        subst (λ (y : ℕ). Done (InBlock (sizes .largest) (sizes .bound) b y) values plan values plan) (sym e)
+        (record {
+          values-filled =
+              block-none (width .places) (readAt width) (read-local width) (sizes .largest) (sizes .bound) (valueLeft width s sizes scale ahead) this b h values;
+          plan-filled =
+              block-none 1 numberAt number-local (sizes .largest) (sizes .bound) (byteLeft width s sizes scale ahead) row b h plan;
+        })
+
+    -- one queue more
+    pub left-more : (x : ℕ) {values₀ plan₀ values₁ plan₁ values₂ plan₂ : List ℕ} → lowestOf (sizes .largest) (sizes .bound) b ≤ x →
+        x ≤ sizes .bound * sizes .largest → Done (InBlock (sizes .largest) (sizes .bound) b x) values₀ plan₀ values₁ plan₁ →
+        Left width s sizes scale ahead this row (numberIn (sizes .largest) (sizes .bound) b x) values₁ plan₁ values₂ plan₂ →
+        Done (InBlock (sizes .largest) (sizes .bound) b (x + 1)) values₀ plan₀ values₂ plan₂
+    left-more x low high so-far left =
+        rw add-one
+        (record {
+          values-filled =
+              block-more (width .places) (readAt width) (read-local width) (sizes .largest) (sizes .bound) (valueLeft width s sizes scale ahead) this b h x
+              (numberIn (sizes .largest) (sizes .bound) b x) low high refl refl refl (so-far .values-filled) (left .value-filled);
+          plan-filled =
+              block-more 1 numberAt number-local (sizes .largest) (sizes .bound) (byteLeft width s sizes scale ahead) row b h x
+              (numberIn (sizes .largest) (sizes .bound) b x) low high refl refl refl (so-far .plan-filled) (left .byte-filled);
+        })
+
+    -- one block more
+    pub left-block : (x : ℕ) {values₀ plan₀ values₁ plan₁ values₂ plan₂ : List ℕ} → sizes .bound * sizes .largest < x →
+        Done (InBlocks (sizes .largest) (sizes .bound) b) values₀ plan₀ values₁ plan₁ →
+        Done (InBlock (sizes .largest) (sizes .bound) b x) values₁ plan₁ values₂ plan₂ →
+        Done (InBlocks (sizes .largest) (sizes .bound) (b + 1)) values₀ plan₀ values₂ plan₂
+    left-block x high so-far block =
+        record {
+          values-filled =
+              blocks-more (width .places) (readAt width) (read-local width) (sizes .largest) (sizes .bound) (valueLeft width s sizes scale ahead) this b x h
+              high (so-far .values-filled) (block .values-filled);
+          plan-filled =
+              blocks-more 1 numberAt number-local (sizes .largest) (sizes .bound) (byteLeft width s sizes scale ahead) row b x h high
+              (so-far .plan-filled) (block .plan-filled);
+        }
+
+  -- in no block anything is filled
+  pub left-begun : (values plan : List ℕ) → Done (InBlocks (sizes .largest) (sizes .bound) 0) values plan values plan
+  left-begun values plan =
+      record {
+        values-filled =
+            blocks-none (width .places) (readAt width) (read-local width) (sizes .largest) (sizes .bound) (valueLeft width s sizes scale ahead) this values;
+        plan-filled = blocks-none 1 numberAt number-local (sizes .largest) (sizes .bound) (byteLeft width s sizes scale ahead) row plan;
+      }
+
+  -- after the last block all is
+  pub left-whole : Measured sizes → (b : ℕ) {values₀ plan₀ values plan : List ℕ} → b ≡ sizes .after →
+      Done (InBlocks (sizes .largest) (sizes .bound) b) values₀ plan₀ values plan →
+      LeftAll width s sizes scale ahead this row values₀ plan₀ values plan
+  left-whole m b all filled =
+      record {
+        values-filled =
+            blocks-whole (width .places) (readAt width) (read-local width) (sizes .largest) (sizes .bound) (valueLeft width s sizes scale ahead) this b
+            (sizes .queues) (all ∙ m .after-is) (m .queues-is) (filled .values-filled);
+        plan-filled =
+            blocks-whole 1 numberAt number-local (sizes .largest) (sizes .bound) (byteLeft width s sizes scale ahead) row b (sizes .queues)
+            (all ∙ m .after-is) (m .queues-is) (filled .plan-filled);
+      }

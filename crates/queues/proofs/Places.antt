@@ -4,13 +4,13 @@
 use Prim.Native.Nat.{ℕ, zero, suc, _+_, _*_, _-_, min, _≤_, _<_}
 use mathlib.Core.Path.{_≡_, refl, sym, ap, _∙_}
 use mathlib.Core.Bool.{Bool, true, false, cond, not, _&&_}
-use mathlib.Core.List.{List, [], _∷_}
+use mathlib.Core.List.{List, [], _∷_, _++_}
 use native.Mathlib.Numerals.{add-one}
 use native.Mathlib.Omega.{arith}
 use borrow.Author.Tests.{ltb-true, ltb-false, le-leb, lt-leb, eq-eqb, ne-eqb, not-true, not-false}
 use lib.Dec.{leb, ltb, eqb}
-use lib.ListN.{length, getD, length-take}
-use lib.Seq.{getD-take, ext-getD}
+use lib.ListN.{length, getD, replicate, length-take}
+use lib.Seq.{getD-take, ext-getD, take-take, take-append-le}
 use Rattle.model.specs.Tests.{everywhere}
 use Rattle.model.specs.Queue.{Queue, total, queueIn, placesOf, bearableAt, bearable, unusedAt, unusedZero, bearableIn, run, arrive}
 use Rattle.model.proofs.Tests.{everywhere-fails, everywhere-more, everywhere-same}
@@ -42,6 +42,10 @@ pub small-in : (D : ℕ) (places : List ℕ) (place : ℕ) → place < D → Sma
 small-in D places place h small = omega (arith, total-in D places (suc place) h, small (suc place))
 
 -- the places of a queue
+
+-- its first positions stand in the first places
+pub positions-in : (n : ℕ) (w : Queue) → n ≤ 6 → n ≤ length w → queueIn n (placesOf w) ≡ queueIn n w
+positions-in n w few long = take-take n 6 (w ++ replicate 6 0) few ∙ take-append-le n w (replicate 6 0) long
 
 -- they are the first six totals, one after the other
 pub six-places : (w : Queue) → placesOf w ≡ total w 1 ∷ total w 2 ∷ total w 3 ∷ total w 4 ∷ total w 5 ∷ total w 6 ∷ []

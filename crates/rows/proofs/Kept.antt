@@ -1,18 +1,22 @@
 -- The first queue of a block, in its six places: behind what stands before its last total, the last total written once more.
-use Prim.Native.Nat.{ℕ, suc, _≤_, _<_}
-use mathlib.Core.Path.{_≡_, refl, sym, ap, _∙_}
+use Prim.Native.Nat.{ℕ, zero, suc, pred, _-_, _≤_, _<_}
+use mathlib.Core.Path.{_≡_, refl, sym, ap, _∙_, subst}
 use mathlib.Core.Bool.{Bool, true, false}
 use mathlib.Core.List.{List}
 use mathlib.Core.Logic.{_⊎_, inl, inr}
-use native.Mathlib.Nat.{eq-or-lt-of-le}
+use native.Mathlib.Nat.{eq-or-lt-of-le, le-refl, not-suc-le-zero}
 use native.Mathlib.Omega.{arith}
 use borrow.Author.Tests.{ltb-true, ltb-false}
-use lib.Dec.{ltb}
+use lib.Dec.{T, ltb}
 use lib.ListN.{length, getD, set, length-set}
 use lib.Seq.{ext-getD, getD-set-same, getD-set-other}
-use Rattle.model.specs.Queue.{Queue, total, placesOf}
-use Rattle.model.proofs.Queues.{length-places, total-places, total-past}
+use Rattle.model.specs.Queue.{Queue, total, queueIn, placesOf, bearable, queueCount}
+use Rattle.model.proofs.Queues.{length-places, total-places, total-past, listed-bearable}
+use Rattle.queues.specs.Blocks.{queueWith, firstOf, lowestOf}
+use Rattle.queues.specs.Order.{Ranges, Numbered}
 use Rattle.queues.specs.Slot.{kept}
+use Rattle.queues.proofs.Blocks.{first-queue}
+use Rattle.queues.proofs.Places.{total-in, positions-in}
 use Rattle.queues.proofs.Slots.{length-kept, total-kept, last-kept}
 
 pub kept-places : (d : ℕ) (v : Queue) {places : List ℕ} {last : ℕ} → d ≤ 5 → length v ≡ d → places ≡ placesOf v → last ≡ total places d →
@@ -44,3 +48,27 @@ kept-places d v {places} {last} few long e here =
         let low = ltb-true i d t in
         getD-set-other places d i last 0 (λ q. omega arith) ∙ was i l ∙ sym (total-kept v (suc i) (omega arith))
     each i l false t = behind i l (eq-or-lt-of-le (ltb-false i d t))
+
+-- the last total of a queue stands in the last of its places
+pub last-in : (d : ℕ) (places : List ℕ) → 1 ≤ d → total (queueIn d places) d ≡ getD places (d - 1) 0
+last-in zero places low = absurd (not-suc-le-zero low)
+last-in (suc d) places low =
+    let same : d ≡ suc d - 1 = omega arith in
+    total-in (suc d) places (suc d) (le-refl (suc d)) ∙ ap (λ (k : ℕ). getD places k 0) same
+
+-- so what stands in them is the first queue of the block, which has a number, and its last total is the lowest
+module _ (M d b : ℕ) (low : 1 ≤ d) (r : Ranges M d) (h : b < queueCount M (pred d)) {queue : List ℕ}
+    (e : queue ≡ placesOf (kept (queueWith M (pred d) b))) where
+  pub first-in : queueIn d queue ≡ firstOf M d b
+  first-in =
+      ap (queueIn d) e ∙
+      positions-in d (kept (queueWith M (pred d) b)) (r .bound-high)
+      (omega (arith, length-kept (queueWith M (pred d) b), listed-bearable M (pred d) b h .0))
+
+  pub first-numbered : Numbered M d queue
+  first-numbered =
+      record { ranges = r; is-bearable = subst (λ (q : Queue). T (bearable M q)) (sym first-in) (first-queue M d b low h .1) }
+
+  pub lowest-in : getD queue (d - 1) 0 ≡ lowestOf M d b
+  lowest-in =
+      sym (last-in d queue low) ∙ ap (λ (q : Queue). total q d) first-in ∙ first-queue M d b low h .2

@@ -10,7 +10,7 @@ use lib.ListN.{length, getD, set, length-set}
 use lib.Seq.{getD-set-same, getD-set-other}
 use Rattle.value.specs.Fills.{Fills, numberAt}
 use Rattle.value.proofs.Filling.{number-local, number-stored, fills-none, fills-more}
-use Rattle.rows.specs.Tables.{lineOf, lineAt, Columns, Lines}
+use Rattle.rows.specs.Tables.{lineOf, lineAt, Columns, Lines, Table}
 
 -- the columns
 
@@ -46,7 +46,7 @@ columns-more c place a b l low room f g e d so-far =
         so-far .seconds j k
 
 -- what is written behind the columns leaves them as they are
-pub columns-kept : (c n : ℕ) {f g : ℕ → ℕ} {l l′ : List ℕ} → n ≤ c → ((p : ℕ) → p < c + c → getD l′ p 0 ≡ getD l p 0) → Columns c n f g l →
+columns-kept : (c n : ℕ) {f g : ℕ → ℕ} {l l′ : List ℕ} → n ≤ c → ((p : ℕ) → p < c + c → getD l′ p 0 ≡ getD l p 0) → Columns c n f g l →
     Columns c n f g l′
 columns-kept c n few kept columns =
     record {
@@ -72,6 +72,38 @@ head-stored l at number lowest third h lane =
 
     l₂ : List ℕ
     l₂ = set l₁ (at + 1) lowest
+
+-- and behind them its lanes
+pub line-stored : (at n : ℕ) {number lowest third : ℕ} {lane lane′ : ℕ → ℕ} {l₀ l₁ l₂ : List ℕ} → ((j : ℕ) → j < n → lane′ j ≡ lane j) →
+    Fills 1 numberAt (lineOf number lowest third lane) at 3 l₀ l₁ → Fills 1 numberAt lane′ (at + 3) n l₁ l₂ →
+    Fills 1 numberAt (lineOf number lowest third lane) at (n + 3) l₀ l₂
+line-stored at n {number} {lowest} {third} {lane} {lane′} {l₀} {l₁} {l₂} same head lanes =
+    record { same-length = lanes .same-length ∙ head .same-length; filled = each; outside = beyond }
+  where
+    before : (i : ℕ) → i < 3 → getD l₂ (at + i) 0 ≡ lineOf number lowest third lane i
+    before i h = lanes .outside (at + i) (inl (omega arith)) ∙ head .filled i h
+
+    each : (i : ℕ) → i < n + 3 → getD l₂ (at + i) 0 ≡ lineOf number lowest third lane i
+    each zero h = before 0 (omega arith)
+    each (suc zero) h = before 1 (omega arith)
+    each (suc (suc zero)) h = before 2 (omega arith)
+    each (suc (suc (suc j))) h =
+        let place : at + suc (suc (suc j)) ≡ at + 3 + j = omega arith in
+        ap (λ (p : ℕ). getD l₂ p 0) place ∙ lanes .filled j (omega arith) ∙ same j (omega arith)
+
+    beyond : (p : ℕ) → (p < at * 1) ⊎ ((at + (n + 3)) * 1 ≤ p) → getD l₂ p 0 ≡ getD l₀ p 0
+    beyond p (inl h) = lanes .outside p (inl (omega arith)) ∙ head .outside p (inl h)
+    beyond p (inr h) = lanes .outside p (inr (omega arith)) ∙ head .outside p (inr (omega arith))
+
+-- a line of the same numbers at the same place
+pub line-same : {number lowest third at number′ lowest′ third′ at′ n : ℕ} {lane : ℕ → ℕ} {l l′ : List ℕ} → number ≡ number′ → lowest ≡ lowest′ →
+    third ≡ third′ → at ≡ at′ → Fills 1 numberAt (lineOf number lowest third lane) at n l l′ →
+    Fills 1 numberAt (lineOf number′ lowest′ third′ lane) at′ n l l′
+line-same {number} {lowest} {third} {at} {number′} {lowest′} {third′} {n = n} {lane = lane} {l = l} {l′ = l′} p q r e fill =
+    subst (λ (x : ℕ). Fills 1 numberAt (lineOf number′ lowest′ third′ lane) x n l l′) e
+    (subst (λ (x : ℕ). Fills 1 numberAt (lineOf x lowest′ third′ lane) at n l l′) p
+    (subst (λ (x : ℕ). Fills 1 numberAt (lineOf number x third′ lane) at n l l′) q
+    (subst (λ (x : ℕ). Fills 1 numberAt (lineOf number lowest x lane) at n l l′) r fill)))
 
 -- the lines
 
@@ -100,6 +132,18 @@ pub line-behind : (c n b size : ℕ) (line : ℕ → ℕ) {l l′ : List ℕ} �
     (p : ℕ) → p < c + c → getD l′ p 0 ≡ getD l p 0
 line-behind c n b size line fill p h = fill .outside p (inl (omega arith))
 
+-- so far the lines reach that are put one after the other, within a table that has room for them all
+pub line-before : (c n b blocks : ℕ) {room : ℕ} → b < blocks → lineAt c n blocks ≤ room → lineAt c n (b + 1) ≤ room
+line-before c n b blocks h room =
+    let more : b + 1 ≤ blocks = omega arith in
+    omega (arith, mul-le-mul-right (n + 3) more)
+
 -- a line lies within a table that has room for it
 pub line-within : (c n b blocks : ℕ) {room : ℕ} → b < blocks → lineAt c n blocks ≤ room → lineAt c n b + (n + 3) ≤ room
 line-within c n b blocks h room = omega (arith, mul-le-mul-right (n + 3) h, suc-mul b (n + 3))
+
+-- the columns, and behind them the lines of all blocks, are the table
+pub table-whole : (c n : ℕ) {blocks all : ℕ} {f g : ℕ → ℕ} {line : ℕ → ℕ → ℕ} {l l′ : List ℕ} → n ≤ c → blocks ≡ all → Columns c n f g l →
+    Lines c n blocks line l′ → ((p : ℕ) → p < c + c → getD l′ p 0 ≡ getD l p 0) → Table c n all f g line l′
+table-whole c n {line = line} {l′ = l′} few e columns lines kept =
+    record { columns = columns-kept c n few kept columns; lines = subst (λ (k : ℕ). Lines c n k line l′) e lines }

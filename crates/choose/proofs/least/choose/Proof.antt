@@ -1,0 +1,145 @@
+-- `choose` meets its contract. The loop's invariant: the least so far is the least over the speeds passed, and those before the first that
+-- leads on cost none.
+use Prim.Native.Nat.{ℕ, _+_, _-_, _≤_, _<_}
+use mathlib.Core.Path.{_≡_, sym, ap, _∙_, subst}
+use mathlib.Core.Option.{Option}
+use native.Mathlib.Omega.{arith}
+use lib.ListN.{length, getD}
+use Rattle.model.specs.Counted.{counted, speedAt}
+use Rattle.model.proofs.Tests.{first-within}
+use Rattle.queues.specs.Blocks.{queueWith, firstOf, numberIn}
+use Rattle.value.specs.Narrow.{width, valueOf}
+use Rattle.rows.proofs.Measures.{after-room}
+use Rattle.choose.specs.Choice.{costAt, leastTo, IsChoice}
+use Rattle.choose.specs.Lanes.{leadsOn, slowestIn}
+use Rattle.choose.proofs.Choices.{least-begun, least-more, least-whole}
+use Rattle.choose.proofs.Passing.{in-range, columns-room, speed-read, line-room, line-slowest, slower-none}
+use Rattle.choose.proofs.least.choose.Statement.{statement}
+use Rattle.choose.proofs.least.choose.Tie as tie
+
+abbrev Inv-loop : tie.InvT-loop
+Inv-loop sheet sizes scale lanes ahead block last best₀ place₀ best place =
+    (slowestIn (sizes .largest) (sizes .bound) (counted sheet) (firstOf (sizes .largest) (sizes .bound) block) ≤ place) ×
+    (place ≤ sheet .«speed_count») ×
+    IsChoice (leastTo (speedAt (counted sheet)) (costAt width (sizes .largest) (sizes .bound) (counted sheet) ahead (valueOf scale)
+    (queueWith (sizes .largest) (sizes .bound) (numberIn (sizes .largest) (sizes .bound) block last))) place) (best .speed) (valueOf (best .value))
+
+abbrev μ-loop : tie.MeasureT-loop
+μ-loop sheet sizes scale lanes ahead block last best₀ place₀ best place = sheet .«speed_count» - place
+
+-- the block's line is within the table, as the code finds it
+line : (c : tie.After-line-at Inv-loop μ-loop) → c .line-at .result + 2 < length (c .before .before .before .before .args .lanes .now)
+line c =
+    let start = c .before .before .before .before in
+    omega (arith, c .line-at .ensures, line-room (start .pre .0) (start .args .block) (start .pre .1 .block-low))
+
+-- where the loop begins
+began : (c : tie.After-shared-slice-known3 Inv-loop μ-loop) →
+    let a = c .before .before .before .before .before .args in
+    getD (a .lanes .now) (c .before .line-at .result + 2) 0 ≡
+    slowestIn (a .sizes .largest) (a .sizes .bound) (counted (a .sheet)) (firstOf (a .sizes .largest) (a .sizes .bound) (a .block))
+began c =
+    let start = c .before .before .before .before .before in
+    ap (λ (p : ℕ). getD (start .args .lanes .now) (p + 2) 0) (c .before .line-at .ensures) ∙
+    line-slowest (start .pre .0) (start .args .block) (start .pre .1 .block-low)
+
+none-requires : tie.Need-none-requires Inv-loop μ-loop
+none-requires c κs = tt
+
+line-at-requires : tie.Need-line-at-requires Inv-loop μ-loop
+line-at-requires c κs =
+    let start = c .before .before .before in
+    (omega arith, omega (arith, in-range (start .pre .0) .speeds-high), omega (arith, start .pre .1 .block-low, after-room (start .pre .0 .measured)))
+
+add-place : tie.Need-add-place Inv-loop μ-loop
+add-place c = omega (arith, line c)
+
+mul-place : tie.Need-mul-place Inv-loop μ-loop
+mul-place c = omega (arith, line c)
+
+shared-slice-read-place : tie.Need-shared-slice-read-place Inv-loop μ-loop
+shared-slice-read-place c = omega (arith, line (c .before))
+
+cast-place : tie.Need-cast-place Inv-loop μ-loop
+cast-place c = omega (arith, c .shared-slice-known3 .given (c .before .line-at .result + 2))
+
+loop-holds : tie.Need-loop-holds Inv-loop μ-loop
+loop-holds c =
+    let start = c .before .before .before .before .before in
+    let a = start .args in
+    let s = counted (a .sheet) in
+    let from = began c in (
+      omega (arith, from),
+      omega (arith, from, first-within (λ j. leadsOn (a .sizes .largest) (a .sizes .bound) (firstOf (a .sizes .largest) (a .sizes .bound) (a .block)) (speedAt s j)) (s .speedCount)),
+      least-begun (speedAt s) _ _
+          (λ j h. slower-none (start .pre .0) (a .block) (start .pre .1 .block-low) (a .last) (start .pre .1) j (omega (arith, from)))
+          (c .before .before .none .ensures),
+    )
+
+cast-if1 : tie.Need-cast-if1 Inv-loop μ-loop
+cast-if1 c = omega arith
+
+cost-requires : tie.Need-cost-requires Inv-loop μ-loop
+cost-requires c κs =
+    let l = c .before .before in
+    let start = l .before .before .before .before .before .before in
+    (start .pre .0, start .pre .1, l .loop .inv .0, omega (arith, c .if1 .taken))
+
+mul-better : tie.Need-mul-better Inv-loop μ-loop
+mul-better c = omega (arith, c .before .if1 .taken)
+
+shared-slice-read-better : tie.Need-shared-slice-read-better Inv-loop μ-loop
+shared-slice-read-better c =
+    let l = c .before .before .before .before in
+    let start = l .before .before .before .before .before .before in
+    omega (arith, c .before .before .if1 .taken, in-range (start .pre .0) .speeds-high, columns-room (start .pre .0))
+
+better-requires : tie.Need-better-requires Inv-loop μ-loop
+better-requires c κs = tt
+
+add-place-2 : tie.Need-add-place-2 Inv-loop μ-loop
+add-place-2 c = omega (arith, c .before .before .before .if1 .taken)
+
+loop-less : tie.Need-loop-less Inv-loop μ-loop
+loop-less c = omega (arith, c .before .before .before .if1 .taken)
+
+loop-again : tie.Need-loop-again Inv-loop μ-loop
+loop-again c =
+    let l = c .before .before .before .before .before in
+    let start = l .before .before .before .before .before .before in
+    let low = c .before .before .before .if1 .taken in (
+      omega (arith, l .loop .inv .0),
+      omega (arith, low),
+      least-more (speedAt (counted (start .args .sheet))) _ (l .loop .place) (speed-read (start .pre .0) (l .loop .place) (omega (arith, low)))
+          (c .before .before .cost .ensures) (l .loop .inv .2) (c .better .ensures),
+    )
+
+returns : tie.Need-returns Inv-loop μ-loop
+returns c =
+    let l = c .before .before in
+    let start = l .before .before .before .before .before .before in
+    least-whole (speedAt (counted (start .args .sheet))) _ (l .loop .place) (start .args .sheet .«speed_count»)
+    (omega (arith, l .loop .inv .1, c .if1 .left)) (l .loop .inv .2)
+
+pub choose-spec : {M : Type 1} → statement M
+choose-spec =
+    tie.close
+    (tie.spec
+    Inv-loop
+    μ-loop
+    none-requires
+    line-at-requires
+    add-place
+    mul-place
+    shared-slice-read-place
+    cast-place
+    loop-holds
+    cast-if1
+    cost-requires
+    mul-better
+    shared-slice-read-better
+    better-requires
+    add-place-2
+    loop-less
+    loop-again
+    returns)

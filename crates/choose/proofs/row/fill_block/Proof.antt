@@ -1,0 +1,147 @@
+-- `fill_block` meets its contract. The loop's invariant: the queues of the block below the last total are filled.
+use Prim.Native.Nat.{ℕ, suc, pred, _+_, _-_, _*_, _≤_, _<_}
+use mathlib.Core.Path.{_≡_, ap, _∙_, subst}
+use native.Mathlib.Omega.{arith}
+use lib.ListN.{length, getD}
+use Rattle.model.specs.Counted.{counted}
+use Rattle.model.specs.Queue.{queueCount}
+use Rattle.queues.specs.Blocks.{lowestOf, InBlock}
+use Rattle.value.specs.Narrow.{width, valueOf}
+use Rattle.rows.proofs.Measures.{after-room, most-total}
+use Rattle.choose.specs.Pass.{Within, LeftWhere}
+use Rattle.choose.proofs.Passing.{in-range, block-low, lowest-high, line-room, line-lowest, left-none, left-more}
+use Rattle.choose.proofs.row.fill_block.Statement.{statement}
+use Rattle.choose.proofs.row.fill_block.Tie as tie
+
+abbrev Inv-loop : tie.InvT-loop
+Inv-loop sheet sizes scale lanes ahead block this row values₀ plan₀ end last₀ values plan last =
+    (last₀ ≤ last) × (last ≤ suc end) × (last₀ ≡ lowestOf (sizes .largest) (sizes .bound) block) ×
+    LeftWhere width (counted sheet) sizes (valueOf scale) ahead this row (InBlock (sizes .largest) (sizes .bound) block last) values₀ plan₀ values plan
+
+abbrev μ-loop : tie.MeasureT-loop
+μ-loop sheet sizes scale lanes ahead block this row values₀ plan₀ end last₀ values plan last = suc end - last
+
+-- the block's line is within the table, as the code finds it
+line : (c : tie.After-line-at Inv-loop μ-loop) → c .line-at .result + 3 ≤ length (c .before .before .before .before .before .before .before .args .lanes .now)
+line c =
+    let start = c .before .before .before .before .before .before .before in
+    omega (arith, c .line-at .ensures, line-room (start .pre .0) (start .args .block) (start .pre .1))
+
+-- the lowest last total of the block
+lowest : (c : tie.After-line-at Inv-loop μ-loop) →
+    let a = c .before .before .before .before .before .before .before .args in
+    getD (a .lanes .now) (c .line-at .result + 1) 0 ≡ lowestOf (a .sizes .largest) (a .sizes .bound) (a .block)
+lowest c =
+    let start = c .before .before .before .before .before .before .before in
+    ap (λ (p : ℕ). getD (start .args .lanes .now) (p + 1) 0) (c .line-at .ensures) ∙
+    line-lowest (start .pre .0) (start .args .block) (start .pre .1)
+
+-- a turn of the loop is at a queue of the block
+within : (c : tie.At-loop Inv-loop μ-loop) →
+    let a = c .before .before .before .before .before .before .before .before .before .args in
+    c .loop .last ≤ a .sizes .bound * a .sizes .largest → Within (a .sizes) (a .block) (c .loop .last)
+within c taken =
+    record {
+      block-low = c .before .before .before .before .before .before .before .before .before .pre .1;
+      last-low = omega (arith, c .loop .inv .0, c .loop .inv .2);
+      last-high = taken;
+    }
+
+cast-end : tie.Need-cast-end Inv-loop μ-loop
+cast-end c = omega (arith, c .before .before .before .before .before .pre .0 .measured .ranges .bound-high)
+
+mul-end : tie.Need-mul-end Inv-loop μ-loop
+mul-end c = omega (arith, most-total (c .before .before .before .before .before .before .pre .0 .measured))
+
+line-at-requires : tie.Need-line-at-requires Inv-loop μ-loop
+line-at-requires c κs =
+    let start = c .before .before .before .before .before .before in
+    (omega arith, omega (arith, in-range (start .pre .0) .speeds-high), omega (arith, start .pre .1, after-room (start .pre .0 .measured)))
+
+add-last : tie.Need-add-last Inv-loop μ-loop
+add-last c = omega (arith, line c)
+
+mul-last : tie.Need-mul-last Inv-loop μ-loop
+mul-last c = omega (arith, line c)
+
+shared-slice-read-last : tie.Need-shared-slice-read-last Inv-loop μ-loop
+shared-slice-read-last c = omega (arith, line (c .before))
+
+loop-holds : tie.Need-loop-holds Inv-loop μ-loop
+loop-holds c =
+    let start = c .before .before .before .before .before .before .before .before in
+    let a = start .args in
+    let low = lowest (c .before) in (
+      omega arith,
+      omega (arith, low, lowest-high (start .pre .0) (a .block) (start .pre .1)),
+      low,
+      left-none width (counted (a .sheet)) (a .sizes) (valueOf (a .scale)) (a .ahead .now) (a .this) (a .row) (a .block)
+          (block-low (start .pre .0) (a .block) (start .pre .1)) (a .values .now) (a .plan .now) low,
+    )
+
+fill-queue-requires : tie.Need-fill-queue-requires Inv-loop μ-loop
+fill-queue-requires c κs =
+    let l = c .before .before .before in
+    let start = l .before .before .before .before .before .before .before .before .before in (
+      start .pre .0,
+      within l (c .before .before .loop-test .taken),
+      omega (arith, start .pre .2, l .loop .inv .3 .values-filled .same-length),
+      omega (arith, start .pre .3, l .loop .inv .3 .plan-filled .same-length),
+    )
+
+add-last-2 : tie.Need-add-last-2 Inv-loop μ-loop
+add-last-2 c = omega (arith, c .before .before .before .before .before .before .before .loop-test .taken, most-total (c .before .before .before .before .before .before .before .before .before .before .before .before .before .before .before .before .before .pre .0 .measured))
+
+loop-less : tie.Need-loop-less Inv-loop μ-loop
+loop-less c = omega (arith, c .before .before .before .before .before .before .before .loop-test .taken)
+
+loop-again : tie.Need-loop-again Inv-loop μ-loop
+loop-again c =
+    let l = c .before .before .before .before .before .before .before .before in
+    let start = l .before .before .before .before .before .before .before .before .before in
+    let a = start .args in
+    let taken = c .before .before .before .before .before .before .before .loop-test .taken in
+    let inside = within l taken in (
+      omega (arith, l .loop .inv .0),
+      omega (arith, taken),
+      l .loop .inv .2,
+      left-more width (counted (a .sheet)) (a .sizes) (valueOf (a .scale)) (a .ahead .now) (a .this) (a .row) (a .block)
+          (block-low (start .pre .0) (a .block) (start .pre .1)) (l .loop .last) (inside .last-low) (inside .last-high) (l .loop .inv .3)
+          (c .before .before .before .before .fill-queue .ensures),
+    )
+
+same-length : tie.Need-same-length Inv-loop μ-loop
+same-length c = c .before .loop .inv .3 .values-filled .same-length
+
+same-length-2 : tie.Need-same-length-2 Inv-loop μ-loop
+same-length-2 c = c .before .loop .inv .3 .plan-filled .same-length
+
+returns : tie.Need-returns Inv-loop μ-loop
+returns c =
+    let l = c .before in
+    let start = l .before .before .before .before .before .before .before .before .before in
+    let a = start .args in
+    let all : l .loop .last ≡ suc (a .sizes .bound * a .sizes .largest) = omega (arith, l .loop .inv .1, c .loop-test .left) in
+    subst (λ (x : ℕ). LeftWhere width (counted (a .sheet)) (a .sizes) (valueOf (a .scale)) (a .ahead .now) (a .this) (a .row)
+    (InBlock (a .sizes .largest) (a .sizes .bound) (a .block) x) (a .values .now) (a .plan .now) (l .loop .values) (l .loop .plan)) all (l .loop .inv .3)
+
+pub fill-block-spec : {M : Type 1} → statement M
+fill-block-spec =
+    tie.close
+    (tie.spec
+    Inv-loop
+    μ-loop
+    cast-end
+    mul-end
+    line-at-requires
+    add-last
+    mul-last
+    shared-slice-read-last
+    loop-holds
+    fill-queue-requires
+    add-last-2
+    loop-less
+    loop-again
+    same-length
+    same-length-2
+    returns)
