@@ -2,13 +2,14 @@
 -- together, by one from each to the next. With an entry's arrival they do so too, and the number of the queue then rises by so much in the
 -- first step and by one less in each later one (`risen`). So it is worked out for the first queue of each block alone, once a plan: a
 -- table has it (rows/specs/Tables.antt).
-use Prim.Native.Nat.{ℕ, zero, suc, pred, min, _+_, _*_, _-_}
-use mathlib.Core.Bool.{cond}
+use Prim.Native.Nat.{ℕ, zero, suc, pred, min, _+_, _*_, _-_, _≤_, _<_}
+use mathlib.Core.Path.{_≡_}
+use mathlib.Core.Bool.{false, cond}
 use mathlib.Core.List.{List}
-use lib.Dec.{ltb}
+use lib.Dec.{T, leb}
 use Rattle.model.specs.Counted.{Counted, weightAt, sizeAt, deadlineAt}
 use Rattle.model.specs.Queue.{Queue, total, bearable, queueCount, numberOf}
-use Rattle.queues.specs.Blocks.{firstOf, startOf, lowestOf}
+use Rattle.queues.specs.Blocks.{firstOf, startOf, lowestOf, risen}
 use Rattle.queues.specs.Slot.{kept}
 use Rattle.rows.specs.Tables.{lineOf, Table}
 use Rattle.ahead.specs.Sums.{joined}
@@ -19,7 +20,7 @@ firstAfter M D b = kept (firstOf M (pred D) b)
 
 -- how much an entry lifts the last total but one: by its size, where it is due before D
 abbrev pub liftOf : ℕ → ℕ → ℕ → ℕ
-liftOf D size deadline = cond (ltb deadline D) size 0
+liftOf D size deadline = cond (leb deadline (pred D)) size 0
 
 -- for how many steps a queue stays bearable whose last two totals rise by one in each; 0 where it is not bearable
 abbrev pub stepsOf : ℕ → ℕ → Queue → ℕ
@@ -44,3 +45,10 @@ entryLine M D s b =
 abbrev pub EntryTable : ℕ → ℕ → Counted → List ℕ → Type 0
 EntryTable M D s l =
     Table 32 (s .jobCount) (queueCount M (pred (pred D))) (weightAt s) (λ j. liftOf D (sizeAt s j) (deadlineAt s j)) (entryLine M D s) l
+
+-- what the lane of an entry says of a queue v that is k steps from the first one on, where with the arrival the first is w′ and this one v′:
+-- as long as w′ stays bearable so is v′, and its number is as far from the lane's place as numbers rise in k steps, less what the entry
+-- lifts in each
+pub record Lane (M D : ℕ) (w′ v′ : Queue) (lift lowest k : ℕ) : Type 0 where
+  pub goes : k < stepsOf M D w′ → T (bearable M v′) × (numberOf M v′ + k * lift ≡ laneOf M w′ + risen (D * M + 1 - lowest) k)
+  pub ends : stepsOf M D w′ ≤ k → bearable M v′ ≡ false

@@ -1,0 +1,92 @@
+-- Laws of what is added up (specs/Sums.antt), one entry more at a time, and of the steps for which every arrival leads to a bearable queue.
+use Prim.Native.Nat.{ℕ, zero, suc, pred, min, _+_, _-_, _*_, _≤_, _<_}
+use mathlib.Core.Path.{_≡_, refl, sym, ap, _∙_, subst}
+use mathlib.Core.Bool.{Bool, true, false}
+use mathlib.Core.Logic.{_⊎_, inl, inr, ⊎-elim}
+use mathlib.Core.Option.{Option, none, some}
+use native.Mathlib.Nat.{not-suc-le-zero, eq-or-lt-of-le, le-of-suc-le-suc}
+use native.Mathlib.Numerals.{add-one}
+use native.Mathlib.Omega.{arith}
+use borrow.Author.Tests.{leb-true, leb-false}
+use lib.Dec.{leb}
+use Rattle.process.specs.Recursion.{plus, times, sumOrNone}
+use Rattle.process.proofs.Equations.{sum-or-none-start, sum-or-none-more}
+use Rattle.process.proofs.Value.{plus-none}
+use Rattle.model.specs.Counted.{Counted, weightAt}
+use Rattle.model.specs.Queue.{Queue, total}
+use Rattle.ahead.specs.Lanes.{stepsOf, stepsTo}
+use Rattle.ahead.specs.Sums.{joined, sumTo}
+
+module _ (s : Counted) (f : Queue → Option ℕ) (v : Queue) where
+  -- over no entries the sum is 0
+  pub sum-begun : some 0 ≡ sumTo s f v 0
+  unfolding sumTo
+  sum-begun = sym (sum-or-none-start (λ j. times (weightAt s j) (f (joined s v j))))
+
+  -- with one entry more it is larger by what f gives of the queue with its arrival, weighted
+  pub sum-more : (j : ℕ) {sum here : Option ℕ} {weight : ℕ} → sum ≡ sumTo s f v j → weight ≡ weightAt s j → here ≡ f (joined s v j) →
+      plus sum (times weight here) ≡ sumTo s f v (j + 1)
+  unfolding sumTo
+  sum-more j {sum} {here} {weight} e d h =
+      rw add-one
+      (ap (λ (r : Option ℕ). plus r (times weight here)) e ∙ ap (λ (x : ℕ). plus (sumTo s f v j) (times x here)) d ∙
+      ap (λ (r : Option ℕ). plus (sumTo s f v j) (times (weightAt s j) r)) h ∙
+      sym (sum-or-none-more (λ i. times (weightAt s i) (f (joined s v i))) j))
+
+  -- it is none as soon as f gives none
+  pub sum-none : (n j : ℕ) → j < n → f (joined s v j) ≡ none → sumTo s f v n ≡ none
+  unfolding sumTo
+  sum-none zero j h e = absurd (not-suc-le-zero h)
+  sum-none (suc n) j h e = sum-or-none-more (λ i. times (weightAt s i) (f (joined s v i))) n ∙ go (eq-or-lt-of-le (le-of-suc-le-suc h)) (sum-none n j)
+    where
+      go : (j ≡ n) ⊎ (j < n) → (j < n → f (joined s v j) ≡ none → sumTo s f v n ≡ none) →
+          plus (sumTo s f v n) (times (weightAt s n) (f (joined s v n))) ≡ none
+      go (inl q) ih =
+          ap (λ (r : Option ℕ). plus (sumTo s f v n) (times (weightAt s n) r)) (ap (λ (i : ℕ). f (joined s v i)) (sym q) ∙ e) ∙
+          plus-none (sumTo s f v n)
+      go (inr l) ih = ap (λ (r : Option ℕ). plus r (times (weightAt s n) (f (joined s v n)))) (ih l e)
+
+-- sums of what is the same are the same
+pub sum-same : (s : Counted) (f g : Queue → Option ℕ) (v : Queue) (n : ℕ) → ((j : ℕ) → f (joined s v j) ≡ g (joined s v j)) →
+    sumTo s f v n ≡ sumTo s g v n
+unfolding sumTo sumOrNone
+sum-same s f g v zero same = refl
+sum-same s f g v (suc n) same =
+    ap (λ (r : Option ℕ). plus r (times (weightAt s n) (f (joined s v n)))) (sum-same s f g v n same) ∙
+    ap (λ (r : Option ℕ). plus (sumTo s g v n) (times (weightAt s n) r)) (same n)
+
+-- the steps
+
+module _ (M D : ℕ) (s : Counted) (v : Queue) where
+  -- of no entries they are those of a block
+  pub steps-begun : suc (pred D * M - total v D) ≡ stepsTo M D s v 0
+  unfolding stepsTo
+  steps-begun = refl
+
+  -- with one entry more
+  pub steps-more : (j : ℕ) {least steps next : ℕ} → least ≡ stepsTo M D s v j → steps ≡ stepsOf M D (joined s v j) → next ≡ min least steps →
+      next ≡ stepsTo M D s v (j + 1)
+  unfolding stepsTo
+  steps-more j {steps = steps} e d here = rw add-one (here ∙ ap (λ (x : ℕ). min x steps) e ∙ ap (min (stepsTo M D s v j)) d)
+
+  -- a step before their end is one of each entry
+  pub steps-each : (n k j : ℕ) → k < stepsTo M D s v n → j < n → k < stepsOf M D (joined s v j)
+  unfolding stepsTo
+  steps-each zero k j h l = absurd (not-suc-le-zero l)
+  steps-each (suc n) k j h l = go (eq-or-lt-of-le (le-of-suc-le-suc l)) (steps-each n k j (omega arith))
+    where
+      go : (j ≡ n) ⊎ (j < n) → (j < n → k < stepsOf M D (joined s v j)) → k < stepsOf M D (joined s v j)
+      go (inl q) ih = omega (arith, ap (λ (i : ℕ). stepsOf M D (joined s v i)) q)
+      go (inr m) ih = ih m
+
+  -- a step of the block from their end on is one of some entry no more
+  pub steps-past : (n k : ℕ) → stepsTo M D s v n ≤ k → k ≤ pred D * M - total v D → (j : ℕ) × (j < n) × (stepsOf M D (joined s v j) ≤ k)
+  unfolding stepsTo
+  steps-past zero k h high = absurd (omega arith)
+  steps-past (suc n) k h high = go (leb (stepsTo M D s v n) k) refl (λ l. steps-past n k l high)
+    where
+      go : (b : Bool) → leb (stepsTo M D s v n) k ≡ b →
+          (stepsTo M D s v n ≤ k → (j : ℕ) × (j < n) × (stepsOf M D (joined s v j) ≤ k)) →
+          (j : ℕ) × (j < suc n) × (stepsOf M D (joined s v j) ≤ k)
+      go true e ih = let found = ih (leb-true (stepsTo M D s v n) k e) in (found .0, omega (arith, found .1), found .2)
+      go false e ih = (n, omega arith, omega (arith, leb-false (stepsTo M D s v n) k e))

@@ -1,0 +1,4 @@
+pub mod Firsts
+pub mod Lanes
+pub mod Adding
+pub mod Passing
