@@ -1,19 +1,19 @@
 -- The first queue after a slot of a block, in its six places: the last total stands twice.
-use Prim.Native.Nat.{ℕ, zero, suc, pred, _-_, _≤_, _<_}
+use Prim.Native.Nat.{ℕ, zero, suc, pred, _*_, _-_, _≤_, _<_}
 use mathlib.Core.Path.{_≡_, refl, sym, ap, _∙_, subst}
 use mathlib.Core.List.{List, [], _∷_}
-use native.Mathlib.Nat.{not-suc-le-zero, le-refl}
+use native.Mathlib.Nat.{not-suc-le-zero, le-refl, suc-mul}
 use native.Mathlib.Omega.{arith}
 use lib.Dec.{T}
 use lib.ListN.{length, getD, set}
 use lib.Seq.{take-all, take-append-le}
-use Rattle.model.specs.Queue.{Queue, total, queueIn, placesOf, bearable, queueCount}
-use Rattle.model.proofs.Queues.{in-first-places, bearable-all, listed-bearable}
+use Rattle.model.specs.Queue.{Queue, total, queueIn, placesOf, bearable, queueCount, arrive}
+use Rattle.model.proofs.Queues.{in-first-places, length-in, length-arrive, bearable-all, bearable-upto, listed-bearable}
 use Rattle.queues.specs.Blocks.{queueWith, firstOf, lowestOf}
 use Rattle.queues.specs.Order.{Ranges, Numbered}
 use Rattle.queues.specs.Slot.{Small, kept}
 use Rattle.queues.proofs.Blocks.{first-queue}
-use Rattle.queues.proofs.Places.{positions-in}
+use Rattle.queues.proofs.Places.{positions-in, total-in}
 use Rattle.queues.proofs.Slots.{length-kept, last-kept, bearable-kept, bearable-small}
 use Rattle.rows.proofs.Kept.{kept-places, last-in}
 use Rattle.rows.proofs.Measures.{ranges-fewer, one-fewer}
@@ -30,6 +30,12 @@ module _ (M : ℕ) where
       (length (firstOf M d b) ≡ d) × T (bearable M (firstOf M d b)) × (total (firstOf M d b) d ≡ lowestOf M d b)
   first-of zero b h = (refl, bearable-all M [] (λ i l. absurd (not-suc-le-zero l)), refl)
   first-of (suc d) b h = first-queue M (suc d) b (omega arith) h
+
+  -- so that the lowest last total is one
+  pub lowest-upto : (d b : ℕ) → b < queueCount M (pred d) → lowestOf M d b ≤ d * M
+  lowest-upto d b h =
+      let first = first-of d b h in
+      omega (arith, first .2, bearable-upto M (firstOf M d b) (first .1) d (omega (arith, first .0)))
 
   -- what `first_queue` answers, and its last total written once more behind it
   pub after-places : (d b : ℕ) {places : List ℕ} {last : ℕ} → d ≤ 5 → b < queueCount M (pred d) →
@@ -83,3 +89,30 @@ module _ (M D b : ℕ) (low : 1 ≤ D) (r : Ranges M D) (h : b < queueCount M (p
       let more : D ≡ suc (length v) = omega (arith, shorter .0) in
       sym (last-in D queue low) ∙ ap (λ (q : Queue). total q D) after-in ∙ ap (total (kept v)) more ∙ last-kept v ∙
       ap (total v) (shorter .0) ∙ shorter .2
+
+-- a queue with an arrival stands in the places that `arrive` answers
+pub joined-in : (D : ℕ) (places : List ℕ) (c d : ℕ) {with : List ℕ} → D ≤ 6 → D ≤ length places →
+    with ≡ placesOf (arrive (queueIn D places) c d) → queueIn D with ≡ arrive (queueIn D places) c d
+joined-in D places c d few long e =
+    ap (queueIn D) e ∙
+    in-first-places D (arrive (queueIn D places) c d) (length-arrive (queueIn D places) c d ∙ length-in D places long) few
+
+-- (D-1) times M, as the code works it out
+pub most-fewer : (M D : ℕ) → 1 ≤ D → D * M - M ≡ pred D * M
+most-fewer M zero low = absurd (not-suc-le-zero low)
+most-fewer M (suc d) low = omega (arith, suc-mul d M)
+
+-- what the totals at the last two positions are held to, in the places
+module _ (M D : ℕ) (places : List ℕ) (low : 1 ≤ D) (t : T (bearable M (queueIn D places))) (long : length (queueIn D places) ≡ D) where
+  pub last-held : total places D ≤ D * M
+  last-held = omega (arith, bearable-upto M (queueIn D places) t D (omega arith), total-in D places D (le-refl D))
+
+  pub before-held : total places (D - 1) ≤ pred D * M
+  before-held =
+      let fewer = one-fewer D in
+      omega (
+        arith,
+        ap (total places) fewer,
+        bearable-upto M (queueIn D places) t (pred D) (omega arith),
+        total-in D places (pred D) (omega arith),
+      )

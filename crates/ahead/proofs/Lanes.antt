@@ -6,6 +6,7 @@ use mathlib.Core.Bool.{Bool, true, false, cond}
 use mathlib.Core.List.{[]}
 use mathlib.Core.Logic.{_⊎_, inl, inr}
 use native.Mathlib.Nat.{zero-mul, add-zero, suc-mul, not-suc-le-zero, eq-or-lt-of-le, le-refl}
+use native.Mathlib.Numerals.{add-one}
 use native.Mathlib.Omega.{arith}
 use borrow.Author.Tests.{ltb-true, ltb-false}
 use lib.Dec.{T, leb, ltb}
@@ -27,6 +28,12 @@ use Rattle.ahead.proofs.Firsts.{no-position}
 steps-there : (M D : ℕ) (w : Queue) → T (bearable M w) → stepsOf M D w ≡ suc (min (pred D * M - total w (pred D)) (D * M - total w D))
 steps-there M D w t =
     ap (λ (b : Bool). cond b (suc (min (pred D * M - total w (pred D)) (D * M - total w D))) 0) (holds-true (bearable M w) t)
+
+-- as the code works it out
+pub steps-told : (M D : ℕ) (w : Queue) {before last least : ℕ} → T (bearable M w) → before ≡ pred D * M - total w (pred D) →
+    last ≡ D * M - total w D → least ≡ min before last → least + 1 ≡ stepsOf M D w
+steps-told M D w {last = last} t e d here =
+    add-one _ ∙ ap suc (here ∙ ap (λ (x : ℕ). min x last) e ∙ ap (min (pred D * M - total w (pred D))) d) ∙ sym (steps-there M D w t)
 
 steps-nowhere : (M D : ℕ) (w : Queue) → bearable M w ≡ false → stepsOf M D w ≡ 0
 steps-nowhere M D w e = ap (λ (b : Bool). cond b (suc (min (pred D * M - total w (pred D)) (D * M - total w D))) 0) e

@@ -5,14 +5,14 @@ use mathlib.Core.Path.{_≡_, refl, sym, ap, _∙_, subst}
 use mathlib.Core.Bool.{Bool, true, false, cond}
 use mathlib.Core.List.{List}
 use mathlib.Core.Option.{Option, none}
-use native.Mathlib.Nat.{add-zero, suc-mul, mul-le-mul}
+use native.Mathlib.Nat.{add-zero, mul-le-mul}
 use native.Mathlib.Numerals.{add-one}
 use native.Mathlib.Omega.{arith}
 use lib.Dec.{T, leb}
 use lib.ListN.{length, getD}
 use Rattle.model.specs.Counted.{Counted, weightAt, sizeAt, deadlineAt}
 use Rattle.model.specs.Queue.{Queue, total, bearable, queueCount, numberOf, arrive}
-use Rattle.model.proofs.Queues.{length-arrive, listed-bearable, bearable-upto, number-below}
+use Rattle.model.proofs.Queues.{length-arrive, listed-bearable, number-below}
 use Rattle.model.proofs.Refusal.{Ranged, ranged}
 use Rattle.model.proofs.Tests.{holds-true}
 use Rattle.queues.specs.Blocks.{queueWith, firstOf, startOf, lowestOf, lastOf, InBlock, InBlocks, risen}
@@ -34,7 +34,7 @@ use Rattle.ahead.specs.Lanes.{firstAfter, liftOf, stepsOf, stepsTo, lane
 use Rattle.ahead.specs.Pass.{Given, Within, sumLeft, stepped}
 use Rattle.ahead.specs.Sums.{afterWith, joined, sumTo}
 use Rattle.ahead.proofs.Adding.{sum-none, steps-each, steps-past}
-use Rattle.ahead.proofs.Firsts.{first-of}
+use Rattle.ahead.proofs.Firsts.{first-of, lowest-upto, most-fewer}
 use Rattle.ahead.proofs.Lanes.{lane-says}
 
 module _ {width : Width} {s : Counted} {sizes : Sizes} {lanes : List ℕ} {next : ℕ} {values : List ℕ} (given : Given width s sizes lanes next values) where
@@ -54,9 +54,7 @@ module _ {width : Width} {s : Counted} {sizes : Sizes} {lanes : List ℕ} {next 
 
   -- D times M and, below it, (D-1) times M as the code works it out
   pub most-before : D * M - M ≡ pred D * M
-  most-before =
-      let more : D ≡ suc (pred D) = omega (arith, given .measured .bound-low) in
-      omega (arith, ap (λ (d : ℕ). d * M) more, suc-mul (pred D) M)
+  most-before = most-fewer M D (given .measured .bound-low)
 
   pub most-before-small : pred D * M ≤ 48
   most-before-small = omega (arith, most-before, most-total (given .measured))
@@ -85,9 +83,7 @@ module _ {width : Width} {s : Counted} {sizes : Sizes} {lanes : List ℕ} {next 
 
     -- its lowest last total is one
     pub lowest-high : lowestOf M (pred D) b ≤ pred D * M
-    lowest-high =
-        let v = first-of M (pred D) b block-low in
-        omega (arith, v .2, bearable-upto M (firstOf M (pred D) b) (v .1) (pred D) (omega (arith, v .0)))
+    lowest-high = lowest-upto M (pred D) b block-low
 
     -- its line is within the table
     pub line-room : lineAt 32 (s .jobCount) b + (s .jobCount + 3) ≤ length lanes

@@ -1,17 +1,17 @@
 -- What the functions of the first pass ask and leave, over any width of a value and whatever the row says.
-use Prim.Native.Nat.{ℕ, pred, _+_, _*_, _≤_, _<_}
+use Prim.Native.Nat.{ℕ, pred, _+_, _*_, _-_, _≤_, _<_}
 use mathlib.Core.Path.{_≡_}
 use mathlib.Core.List.{List}
 use mathlib.Core.Option.{Option}
 use lib.ListN.{length}
 use Rattle.model.specs.Counted.{Counted}
 use Rattle.model.specs.Refusal.{fieldsRefusal}
-use Rattle.queues.specs.Blocks.{startOf, lowestOf}
+use Rattle.queues.specs.Blocks.{startOf, lowestOf, risen}
 use Rattle.value.specs.Width.{Width, Below}
 use Rattle.rows.specs.Rows.{valueInRow}
 use Rattle.rows.specs.Sizes.{Measured}
 use Rattle.rows.specs.declared.sizes.Sizes.{Sizes}
-use Rattle.ahead.specs.Lanes.{EntryTable}
+use Rattle.ahead.specs.Lanes.{firstAfter, stepsTo, EntryTable}
 use Rattle.ahead.specs.Sums.{afterWith, sumTo}
 
 -- what is ahead of the queue after a slot with number i, over the first n entries, by the row that begins at place `next`
@@ -32,6 +32,16 @@ pub record Given (width : Width) (s : Counted) (sizes : Sizes) (lanes : List ℕ
 pub record Within (sizes : Sizes) (b k : ℕ) : Type 0 where
   pub block-low : b < sizes .blocks
   pub steps-high : lowestOf (sizes .largest) (pred (sizes .bound)) b + k ≤ pred (sizes .bound) * sizes .largest
+
+-- how far a lane of that block has risen then
+abbrev pub riseOf : Sizes → ℕ → ℕ → ℕ
+riseOf sizes b k = risen (sizes .bound * sizes .largest + 1 - lowestOf (sizes .largest) (pred (sizes .bound)) b) k
+
+-- and every arrival leads to a bearable queue there
+pub record Stepped (s : Counted) (sizes : Sizes) (b k far : ℕ) : Type 0 where
+  pub within : Within sizes b k
+  pub far-is : far ≡ riseOf sizes b k
+  pub before-end : k < stepsTo (sizes .largest) (sizes .bound) s (firstAfter (sizes .largest) (sizes .bound) b) (s .jobCount)
 
 -- its number
 abbrev pub stepped : Sizes → ℕ → ℕ → ℕ

@@ -4,15 +4,37 @@ use rows::Sizes;
 use rows::line_at;
 use value::Value;
 ghost use mathlib.Core.Path.{_≡_};
-ghost use Prim.Native.Nat.{suc, pred, _+_, _*_, _-_, _≤_, _<_};
+ghost use Prim.Native.Nat.{_<_};
 ghost use Rattle.model.specs.Counted.{counted};
-ghost use Rattle.queues.specs.Blocks.{lowestOf, risen};
 ghost use Rattle.value.specs.Narrow.{width, valueOf};
-ghost use Rattle.ahead.specs.Lanes.{firstAfter, stepsTo};
-ghost use Rattle.ahead.specs.Pass.{Given, Within, sumLeft, stepped};
+ghost use Rattle.rows.specs.Rows.{valueInRow};
+ghost use Rattle.ahead.specs.Pass.{Given, Within, Stepped, sumLeft, stepped, riseOf};
+ghost use Rattle.ahead.specs.Sums.{afterWith, joined};
 
-// What is ahead so many steps from the first queue of a block on, where every arrival leads to a bearable queue. A lane has risen by `far`
-// then, less what its entry lifts the last total but one in each step.
+// What the row has for the queue with the arrival of the entry at a place, so many steps from the first queue of a block on, where every
+// arrival leads to a bearable queue. A lane has risen by `far` then, less what its entry lifts the last total but one in each step.
+fn value_on(
+    sheet: Sheet,
+    sizes: Sizes,
+    lanes: &[u32],
+    next: usize,
+    values: &[u64],
+    block: usize,
+    steps: u32,
+    far: u32,
+    place: usize,
+) -> Value
+    requires { ⌜ Given width (counted sheet) sizes (now lanes) next (now values) × Stepped (counted sheet) sizes block steps far ×
+        (place < sheet .«job_count») ⌝ }
+    ensures { λ r. ⌜ valueOf r ≡ valueInRow width (sizes .largest) (now (values .entry)) next
+        (joined (counted sheet) (afterWith (sizes .largest) (sizes .bound) (stepped sizes block steps)) place) ⌝ }
+{
+    let at = line_at(32, sheet.job_count, block);
+    let on = lanes[at + 3 + place] + far - steps * lanes[32 + place];
+    value::load(values, next + on as usize)
+}
+
+// What is ahead there: the weighted sum over the entries.
 fn sum_of(
     sheet: Sheet,
     sizes: Sizes,
@@ -23,17 +45,13 @@ fn sum_of(
     steps: u32,
     far: u32,
 ) -> Value
-    requires { ⌜ Given width (counted sheet) sizes (now lanes) next (now values) × Within sizes block steps ×
-        (far ≡ risen (sizes .bound * sizes .largest + 1 - lowestOf (sizes .largest) (pred (sizes .bound)) block) steps) ×
-        (steps < stepsTo (sizes .largest) (sizes .bound) (counted sheet) (firstAfter (sizes .largest) (sizes .bound) block) (sheet .«job_count»)) ⌝ }
+    requires { ⌜ Given width (counted sheet) sizes (now lanes) next (now values) × Stepped (counted sheet) sizes block steps far ⌝ }
     ensures { λ r. ⌜ valueOf r ≡ sumLeft width (counted sheet) sizes next (now (values .entry)) (stepped sizes block steps) (sheet .«job_count») ⌝ }
 {
-    let at = line_at(32, sheet.job_count, block);
     let mut sum = value::of(0);
     let mut place = 0;
     while place < sheet.job_count as usize {
-        let on = lanes[at + 3 + place] + far - steps * lanes[32 + place];
-        let here = value::load(values, next + on as usize);
+        let here = value_on(sheet, sizes, lanes, next, values, block, steps, far, place);
         if value::is_none(here) {
             return here;
         }
@@ -55,7 +73,7 @@ pub fn sum_at(
     far: u32,
 ) -> Value
     requires { ⌜ Given width (counted sheet) sizes (now lanes) next (now values) × Within sizes block steps ×
-        (far ≡ risen (sizes .bound * sizes .largest + 1 - lowestOf (sizes .largest) (pred (sizes .bound)) block) steps) ⌝ }
+        (far ≡ riseOf sizes block steps) ⌝ }
     ensures { λ r. ⌜ valueOf r ≡ sumLeft width (counted sheet) sizes next (now (values .entry)) (stepped sizes block steps) (sheet .«job_count») ⌝ }
 {
     if lanes[line_at(32, sheet.job_count, block) + 2] <= steps {

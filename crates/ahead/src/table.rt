@@ -13,10 +13,10 @@ use rows::line_at;
 use rows::put_head;
 use rows::put_pair;
 ghost use mathlib.Core.Path.{_≡_};
-ghost use Prim.Native.Nat.{ℕ, pred, min, _+_, _≤_, _<_};
+ghost use Prim.Native.Nat.{ℕ, pred, min, _+_, _*_, _≤_, _<_};
 ghost use lib.ListN.{length, getD};
 ghost use Rattle.model.specs.Counted.{counted, weightAt, sizeAt, deadlineAt};
-ghost use Rattle.model.specs.Queue.{queueIn, placesOf};
+ghost use Rattle.model.specs.Queue.{total, queueIn, placesOf};
 ghost use Rattle.model.specs.Refusal.{fieldsRefusal};
 ghost use Rattle.queues.specs.Counts.{HoldsCounts};
 ghost use Rattle.queues.specs.Slot.{Small};
@@ -28,6 +28,7 @@ ghost use Rattle.ahead.specs.Sums.{joined};
 
 // How much an entry lifts the last total but one: by its size, where it is due before the deadline bound.
 fn lift_of(bound: usize, one: Job) -> u32
+    requires { ⌜ 1 ≤ bound ⌝ }
     ensures { λ r. ⌜ r ≡ liftOf bound (one .size) (one .deadline) ⌝ }
 {
     if (one.deadline as usize) < bound {
@@ -61,7 +62,8 @@ fn steps_of(sizes: Sizes, queue: [u32; 6]) -> u32
 
 // For how many steps from a queue after a slot on every arrival leads to a bearable queue.
 fn steps(sheet: Sheet, sizes: Sizes, queue: [u32; 6]) -> u32
-    requires { ⌜ Measured sizes × (fieldsRefusal (counted sheet) ≡ 0) × Small (queueIn (sizes .bound) queue) ⌝ }
+    requires { ⌜ Measured sizes × (fieldsRefusal (counted sheet) ≡ 0) × Small (queueIn (sizes .bound) queue) ×
+        (total (queueIn (sizes .bound) queue) (sizes .bound) ≤ pred (sizes .bound) * sizes .largest) ⌝ }
     ensures { λ r. ⌜ r ≡ stepsTo (sizes .largest) (sizes .bound) (counted sheet) (queueIn (sizes .bound) queue) (sheet .«job_count») ⌝ }
 {
     let most = sizes.bound as u32 * sizes.largest - sizes.largest;
@@ -157,7 +159,7 @@ fn fill_lines(counts: &[u32; 2352], sheet: Sheet, sizes: Sizes, lanes: &mut [u32
 
 // The weights of the entries, and how much each lifts.
 fn fill_entries(sheet: Sheet, bound: usize, lanes: &mut [u32])
-    requires { ⌜ (fieldsRefusal (counted sheet) ≡ 0) × (64 ≤ length (now lanes)) ⌝ }
+    requires { ⌜ (fieldsRefusal (counted sheet) ≡ 0) × (64 ≤ length (now lanes)) × (1 ≤ bound) ⌝ }
     ensures { λ r. ⌜ Columns 32 (sheet .«job_count») (weightAt (counted sheet))
         (λ j. liftOf bound (sizeAt (counted sheet) j) (deadlineAt (counted sheet) j)) (now (lanes .exit)) ⌝ }
 {

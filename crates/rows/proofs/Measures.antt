@@ -50,6 +50,10 @@ module _ {sizes : Sizes} (m : Measured sizes) where
   pub after-room : sizes .after ≤ 7084
   after-room = omega (arith, m .after-is, few-after (sizes .largest) (sizes .bound) (m .bound-low) (m .ranges) queues-few)
 
+  -- the queues after a slot come in few blocks
+  pub blocks-few : sizes .blocks ≤ 969
+  blocks-few = omega (arith, m .blocks-is, few-blocks (sizes .largest) (sizes .bound) (m .bound-low) (m .ranges) queues-few)
+
   -- so has the table of the second pass, with no more speeds than 0 to M
   pub lines-room : (n : ℕ) → n ≤ suc (sizes .largest) → lineAt 9 n (sizes .after) ≤ 49606
   lines-room n h =
@@ -64,6 +68,5 @@ module _ {sizes : Sizes} (m : Measured sizes) where
   -- and that of the first, with at most 32 entries
   pub entry-lines-room : (n : ℕ) → n ≤ 32 → lineAt 32 n (sizes .blocks) ≤ 33979
   entry-lines-room n h =
-      let few : sizes .blocks ≤ 969 = omega (arith, m .blocks-is, few-blocks (sizes .largest) (sizes .bound) (m .bound-low) (m .ranges) queues-few) in
       let short : n + 3 ≤ 35 = omega arith in
-      omega (arith, mul-le-mul few short)
+      omega (arith, mul-le-mul blocks-few short)

@@ -1,122 +1,106 @@
+-- `sum_of` meets its contract. The loop's invariant: the sum so far is that over the entries passed. Once a value is none, so is the sum. That no
+-- sum passes the limit is not in it, since no sum over some first entries does.
+use Prim.Native.Nat.{ℕ, _+_, _-_, _≤_}
+use mathlib.Core.Path.{_≡_, sym, ap, _∙_, subst}
+use mathlib.Core.Option.{Option}
+use native.Mathlib.Omega.{arith}
+use lib.ListN.{getD}
+use Rattle.process.specs.Recursion.{plus, times}
+use Rattle.model.specs.Counted.{counted}
+use Rattle.value.specs.Narrow.{width, valueOf}
+use Rattle.value.specs.Width.{Below}
+use Rattle.value.proofs.Decoding.{missing-none}
+use Rattle.rows.specs.Rows.{valueInRow}
+use Rattle.ahead.specs.Pass.{sumLeft, stepped}
+use Rattle.ahead.specs.Sums.{afterWith}
+use Rattle.ahead.proofs.Adding.{sum-begun, sum-more, sum-none}
+use Rattle.ahead.proofs.Passing.{in-range, columns-room, weight-read, number-low}
 use Rattle.ahead.proofs.sums.sum_of.Statement.{statement}
 use Rattle.ahead.proofs.sums.sum_of.Tie as tie
-use Rattle.ahead.proofs.sums.sum_of.Reads as reads
-use Rattle.ahead.proofs.sums.sum_of.Lts as lts
-use Rattle.rows.proofs.line_at.Reads as line-at-reads
-use Rattle.value.proofs.add.Reads as add-reads
-use Rattle.value.proofs.is_none.Reads as is-none-reads
-use Rattle.value.proofs.load.Reads as load-reads
-use Rattle.value.proofs.of.Reads as of-reads
 
 abbrev Inv-loop : tie.InvT-loop
-Inv-loop sheet lanes next values block steps far at sum₀ place₀ sum place = ?
+Inv-loop sheet sizes lanes next values block steps far sum₀ place₀ sum place = (place ≤ sheet .«job_count») × (valueOf sum ≡ sumLeft width (counted sheet) sizes next values (stepped sizes block steps) place)
 
 abbrev μ-loop : tie.MeasureT-loop
-μ-loop sheet lanes next values block steps far at sum₀ place₀ sum place = ?
+μ-loop sheet sizes lanes next values block steps far sum₀ place₀ sum place = sheet .«job_count» - place
 
--- src/sums.rt:31:9
-line-at-requires : tie.Need-line-at-requires Inv-loop μ-loop
-line-at-requires c κs = ?
+-- one entry more
+turn : (c : tie.After-shared-slice-known3 Inv-loop μ-loop) →
+    let l = c .before .before .before .before .before .before in
+    let a = l .before .before .before .before .args in
+    plus (valueOf (l .loop .sum)) (times (getD (a .lanes .now) (l .loop .place) 0) (valueOf (c .before .before .before .value-on .result))) ≡
+    sumLeft width (counted (a .sheet)) (a .sizes) (a .next) (a .values .now) (stepped (a .sizes) (a .block) (a .steps)) (l .loop .place + 1)
+turn c =
+    let l = c .before .before .before .before .before .before in
+    let start = l .before .before .before .before in
+    let a = start .args in
+    sum-more (counted (a .sheet)) (valueInRow width (a .sizes .largest) (a .values .now) (a .next))
+    (afterWith (a .sizes .largest) (a .sizes .bound) (stepped (a .sizes) (a .block) (a .steps))) (l .loop .place) (l .loop .inv .1)
+    (weight-read (start .pre .0) (l .loop .place) (omega (arith, c .before .before .before .before .if1 .taken))) (c .before .before .before .value-on .ensures)
 
--- src/sums.rt:32:9
 of-requires : tie.Need-of-requires Inv-loop μ-loop
-of-requires c κs = ?
+of-requires c κs = tt
 
--- src/sums.rt:34:5
 loop-holds : tie.Need-loop-holds Inv-loop μ-loop
-loop-holds c = ?
+loop-holds c =
+    let a = c .before .before .before .args in
+    (omega arith, c .of .ensures ∙ sum-begun (counted (a .sheet)) _ _)
 
--- src/sums.rt:34:19
 cast-if1 : tie.Need-cast-if1 Inv-loop μ-loop
-cast-if1 c = ?
+cast-if1 c = omega arith
 
--- src/sums.rt:35:24
-add-on : tie.Need-add-on Inv-loop μ-loop
-add-on c = ?
+value-on-requires : tie.Need-value-on-requires Inv-loop μ-loop
+value-on-requires c κs =
+    let start = c .before .before .before .before .before .before in
+    (start .pre .0, start .pre .1, omega (arith, c .if1 .taken))
 
--- src/sums.rt:35:24
-add-on-2 : tie.Need-add-on-2 Inv-loop μ-loop
-add-on-2 c = ?
-
--- src/sums.rt:35:18
-mul-on : tie.Need-mul-on Inv-loop μ-loop
-mul-on c = ?
-
--- src/sums.rt:35:18
-shared-slice-read-on : tie.Need-shared-slice-read-on Inv-loop μ-loop
-shared-slice-read-on c = ?
-
--- src/sums.rt:35:18
-add-on-3 : tie.Need-add-on-3 Inv-loop μ-loop
-add-on-3 c = ?
-
--- src/sums.rt:35:62
-add-on-4 : tie.Need-add-on-4 Inv-loop μ-loop
-add-on-4 c = ?
-
--- src/sums.rt:35:56
-mul-on-2 : tie.Need-mul-on-2 Inv-loop μ-loop
-mul-on-2 c = ?
-
--- src/sums.rt:35:56
-shared-slice-read-on-2 : tie.Need-shared-slice-read-on-2 Inv-loop μ-loop
-shared-slice-read-on-2 c = ?
-
--- src/sums.rt:35:48
-mul-on-3 : tie.Need-mul-on-3 Inv-loop μ-loop
-mul-on-3 c = ?
-
--- src/sums.rt:35:18
-sub-on : tie.Need-sub-on Inv-loop μ-loop
-sub-on c = ?
-
--- src/sums.rt:36:47
-cast-load : tie.Need-cast-load Inv-loop μ-loop
-cast-load c = ?
-
--- src/sums.rt:36:40
-add-load : tie.Need-add-load Inv-loop μ-loop
-add-load c = ?
-
--- src/sums.rt:36:13
-load-requires : tie.Need-load-requires Inv-loop μ-loop
-load-requires c κs = ?
-
--- src/sums.rt:37:12
 is-none-requires : tie.Need-is-none-requires Inv-loop μ-loop
-is-none-requires c κs = ?
+is-none-requires c κs = tt
 
--- src/sums.rt:38:13
 returns : tie.Need-returns Inv-loop μ-loop
-returns c = ?
+returns c =
+    let l = c .before .before .before .before .before in
+    let start = l .before .before .before .before in
+    let a = start .args in
+    let gone = missing-none (valueOf (c .before .before .value-on .result)) (sym (c .before .is-none .ensures) ∙ c .if2 .taken) in
+    gone ∙
+    sym
+    (sum-none (counted (a .sheet)) _ _ (a .sheet .«job_count») (l .loop .place) (omega (arith, c .before .before .before .if1 .taken))
+    (sym (c .before .before .value-on .ensures) ∙ gone))
 
--- src/sums.rt:40:31
 mul-add : tie.Need-mul-add Inv-loop μ-loop
-mul-add c = ?
+mul-add c = omega (arith, c .before .before .before .if1 .taken)
 
--- src/sums.rt:40:31
 shared-slice-read-add : tie.Need-shared-slice-read-add Inv-loop μ-loop
-shared-slice-read-add c = ?
+shared-slice-read-add c =
+    let start = c .before .before .before .before .before .before .before .before .before .before in
+    omega (arith, c .before .before .before .before .if1 .taken, in-range (start .pre .0) .jobs-high, columns-room (start .pre .0))
 
--- src/sums.rt:40:9
 add-requires : tie.Need-add-requires Inv-loop μ-loop
-add-requires c κs = ?
+add-requires c κs =
+    let l = c .before .before .before .before .before .before in
+    let start = l .before .before .before .before in
+    let a = start .args in
+    let inside = start .pre .1 .within in
+    let low = c .before .before .before .before .if1 .taken in
+    subst (λ (r : Option ℕ). Below (width .limit) r) (sym (turn c))
+    (start .pre .0 .fits _ (l .loop .place + 1) (number-low (start .pre .0) (a .block) (inside .block-low) (a .steps) inside) (omega (arith, low)))
 
--- src/sums.rt:41:9
 add-place : tie.Need-add-place Inv-loop μ-loop
-add-place c = ?
+add-place c = omega (arith, c .before .before .before .before .before .if1 .taken)
 
--- src/sums.rt:34:5
 loop-less : tie.Need-loop-less Inv-loop μ-loop
-loop-less c = ?
+loop-less c = omega (arith, c .before .before .before .before .before .if1 .taken)
 
--- src/sums.rt:34:5
 loop-again : tie.Need-loop-again Inv-loop μ-loop
-loop-again c = ?
+loop-again c = (omega (arith, c .before .before .before .before .before .if1 .taken), c .add .ensures ∙ turn (c .before))
 
--- src/sums.rt:16:1
 returns-2 : tie.Need-returns-2 Inv-loop μ-loop
-returns-2 c = ?
+returns-2 c =
+    let l = c .before .before in
+    let a = l .before .before .before .before .args in
+    let all : l .loop .place ≡ a .sheet .«job_count» = omega (arith, l .loop .inv .0, c .if1 .left) in
+    l .loop .inv .1 ∙ ap (sumLeft width (counted (a .sheet)) (a .sizes) (a .next) (a .values .now) (stepped (a .sizes) (a .block) (a .steps))) all
 
 pub sum-of-spec : {M : Type 1} → statement M
 sum-of-spec =
@@ -124,23 +108,10 @@ sum-of-spec =
     (tie.spec
     Inv-loop
     μ-loop
-    line-at-requires
     of-requires
     loop-holds
     cast-if1
-    add-on
-    add-on-2
-    mul-on
-    shared-slice-read-on
-    add-on-3
-    add-on-4
-    mul-on-2
-    shared-slice-read-on-2
-    mul-on-3
-    sub-on
-    cast-load
-    add-load
-    load-requires
+    value-on-requires
     is-none-requires
     returns
     mul-add

@@ -1,20 +1,25 @@
+-- `lift_of` meets its contract: the size where the entry is due before the bound, else 0.
+use Prim.Native.Nat.{pred}
+use mathlib.Core.Path.{sym, ap}
+use mathlib.Core.Bool.{Bool, cond}
+use native.Mathlib.Omega.{arith}
+use borrow.Author.Tests.{le-leb, lt-leb}
 use borrow.Author.Needs.{needs}
 use Rattle.ahead.proofs.table.lift_of.Statement.{statement}
 use Rattle.ahead.proofs.table.lift_of.Tie as tie
-use Rattle.ahead.proofs.table.lift_of.Reads as reads
-use Rattle.ahead.proofs.table.lift_of.Lts as lts
 
--- src/table.rt:33:9
 cast-if1 : tie.Need-cast-if1
 cast-if1 c = search needs
 
--- src/table.rt:34:9
 returns : tie.Need-returns
-returns c = ?
+returns c =
+    let a = c .before .before .args in
+    sym (ap (λ (b : Bool). cond b (a .one .size) 0) (le-leb (a .one .deadline) (pred (a .bound)) (omega (arith, c .if1 .taken))))
 
--- src/table.rt:30:1
 returns-2 : tie.Need-returns-2
-returns-2 c = ?
+returns-2 c =
+    let a = c .before .before .args in
+    sym (ap (λ (b : Bool). cond b (a .one .size) 0) (lt-leb (a .one .deadline) (pred (a .bound)) (omega (arith, c .if1 .left, c .before .before .pre))))
 
 pub lift-of-spec : {M : Type 1} → statement M
 lift-of-spec = tie.close (tie.spec cast-if1 returns returns-2)

@@ -1,75 +1,98 @@
+-- `put_lanes` meets its contract. The loop's invariant: the lanes of the entries passed stand there, and nothing else has changed.
+use Prim.Native.Nat.{ℕ, _-_, _≤_}
+use mathlib.Core.Path.{_≡_, refl, sym, ap, _∙_, subst}
+use native.Mathlib.Omega.{arith}
+use lib.ListN.{length, getD}
+use Rattle.model.specs.Counted.{counted}
+use Rattle.model.specs.Queue.{queueIn, arrive}
+use Rattle.model.specs.declared.Job.{Job}
+use Rattle.model.proofs.Refusal.{Ranged, ranged}
+use Rattle.sheets.proofs.Places.{job-counts}
+use Rattle.value.specs.Fills.{Fills, numberAt}
+use Rattle.value.proofs.Filling.{number-local, fills-none, fills-more, fills-whole, number-stored}
+use Rattle.ahead.specs.Lanes.{laneOf}
+use Rattle.ahead.specs.Sums.{joined}
+use Rattle.ahead.proofs.Firsts.{joined-in}
 use Rattle.ahead.proofs.table.put_lanes.Statement.{statement}
 use Rattle.ahead.proofs.table.put_lanes.Tie as tie
-use Rattle.ahead.proofs.table.put_lanes.Reads as reads
-use Rattle.ahead.proofs.table.put_lanes.Lts as lts
-use Rattle.ahead.proofs.table.lane_of.Reads as lane-of-reads
-use Rattle.queues.proofs.arrive.Reads as arrive-reads
 
 abbrev Inv-loop : tie.InvT-loop
-Inv-loop counts sizes queue at lanes₀ sheet place₀ lanes place = ?
+Inv-loop counts sizes queue at lanes₀ sheet place₀ lanes place =
+    (place ≤ sheet .«job_count») ×
+    Fills 1 numberAt (λ j. laneOf (sizes .largest) (joined (counted sheet) (queueIn (sizes .bound) queue) j)) at place lanes₀ lanes
 
 abbrev μ-loop : tie.MeasureT-loop
-μ-loop counts sizes queue at lanes₀ sheet place₀ lanes place = ?
+μ-loop counts sizes queue at lanes₀ sheet place₀ lanes place = sheet .«job_count» - place
 
--- src/table.rt:105:5
+-- the sheet keeps its ranges
+in-range : (c : tie.Start Inv-loop μ-loop) → Ranged (counted (c .args .t2))
+in-range c = ranged (counted (c .args .t2)) (c .pre .2)
+
 loop-holds : tie.Need-loop-holds Inv-loop μ-loop
-loop-holds c = ?
+loop-holds c = (omega arith, fills-none 1 numberAt _ (c .before .args .at) (c .before .args .lanes .now))
 
--- src/table.rt:106:30
 cast-one : tie.Need-cast-one Inv-loop μ-loop
-cast-one c = ?
+cast-one c = omega arith
 
--- src/table.rt:106:19
 mul-one : tie.Need-mul-one Inv-loop μ-loop
-mul-one c = ?
+mul-one c = omega (arith, in-range (c .before .before .before) .jobs-high)
 
--- src/table.rt:106:19
 element-copy-out-one : tie.Need-element-copy-out-one Inv-loop μ-loop
-element-copy-out-one c = ?
+element-copy-out-one c = omega (arith, in-range (c .before .before .before) .jobs-high)
 
--- src/table.rt:107:13
 arrive-requires : tie.Need-arrive-requires Inv-loop μ-loop
-arrive-requires c κs = ?
+arrive-requires c κs =
+    let start = c .before .before .before .before in
+    let place = c .before .before .loop .place in
+    let low = c .before .loop-test .taken in (
+      start .pre .1 .ranges .bound-high,
+      subst (λ (x : Job). x .size ≤ 255) (job-counts (start .args .t2) place low) (in-range start .size-high place low),
+      start .pre .3,
+    )
 
--- src/table.rt:108:38
 lane-of-requires : tie.Need-lane-of-requires Inv-loop μ-loop
-lane-of-requires c κs = ?
+lane-of-requires c κs = (c .before .before .before .before .before .pre .0, c .before .before .before .before .before .pre .1)
 
--- src/table.rt:108:20
 cast-lanes : tie.Need-cast-lanes Inv-loop μ-loop
-cast-lanes c = ?
+cast-lanes c = omega arith
 
--- src/table.rt:108:15
 add-lanes : tie.Need-add-lanes Inv-loop μ-loop
-add-lanes c = ?
+add-lanes c = omega (arith, c .before .before .before .before .before .before .good .1 .1 .1 .1 .1 .0 .0, c .before .before .before .before .before .before .pre .4)
 
--- src/table.rt:108:9
 mul-lanes : tie.Need-mul-lanes Inv-loop μ-loop
-mul-lanes c = ?
+mul-lanes c = omega arith
 
--- src/table.rt:108:9
 slice-write-lanes : tie.Need-slice-write-lanes Inv-loop μ-loop
-slice-write-lanes c = ?
+slice-write-lanes c = omega (arith, c .before .before .before .before .loop .inv .1 .same-length, c .before .before .before .before .before .before .pre .4)
 
--- src/table.rt:109:9
 add-place : tie.Need-add-place Inv-loop μ-loop
-add-place c = ?
+add-place c = omega arith
 
--- src/table.rt:105:5
 loop-less : tie.Need-loop-less Inv-loop μ-loop
-loop-less c = ?
+loop-less c = omega arith
 
--- src/table.rt:105:5
 loop-again : tie.Need-loop-again Inv-loop μ-loop
-loop-again c = ?
+loop-again c =
+    let l = c .before .before .before .before in
+    let start = l .before .before in
+    let a = start .args in
+    let w = queueIn (a .sizes .bound) (a .queue) in
+    let six : length (a .queue) ≡ 6 = omega (arith, start .good) in (
+      omega arith,
+      fills-more 1 numberAt number-local refl
+          (c .lane-of .ensures ∙
+          ap (laneOf (a .sizes .largest))
+          (joined-in (a .sizes .bound) (a .queue) _ _ (start .pre .1 .ranges .bound-high) (omega (arith, start .pre .1 .ranges .bound-high, six)) (c .before .arrive .ensures) ∙
+          ap (λ (x : Job). arrive w (x .size) (x .deadline)) (sym (job-counts (a .t2) (l .loop .place) (c .before .before .before .loop-test .taken)))))
+          (l .loop .inv .1)
+          (number-stored (l .loop .lanes) _ _ (omega (arith, l .loop .inv .1 .same-length, start .pre .4))),
+    )
 
--- src/table.rt:91:1
 same-length : tie.Need-same-length Inv-loop μ-loop
-same-length c = ?
+same-length c = c .before .loop .inv .1 .same-length
 
--- src/table.rt:91:1
 returns : tie.Need-returns Inv-loop μ-loop
-returns c = ?
+returns c = fills-whole 1 numberAt (c .before .loop .inv .1) (omega arith)
 
 pub put-lanes-spec : {M : Type 1} → statement M
 put-lanes-spec =

@@ -1,85 +1,129 @@
+-- `steps` meets its contract. The loop's invariant: the least so far is that over the entries passed.
+use Prim.Native.Nat.{ℕ, suc, pred, _+_, _*_, _-_, _≤_}
+use mathlib.Core.Path.{_≡_, refl, sym, ap, _∙_, subst}
+use native.Mathlib.Nat.{le-refl, mul-le-mul-right}
+use native.Mathlib.Numerals.{add-one}
+use native.Mathlib.Omega.{arith}
+use lib.ListN.{length, getD}
+use Rattle.model.specs.Counted.{counted}
+use Rattle.model.specs.Queue.{total, queueIn, arrive}
+use Rattle.model.specs.declared.Job.{Job}
+use Rattle.model.proofs.Refusal.{Ranged, ranged}
+use Rattle.queues.proofs.Places.{total-in}
+use Rattle.sheets.proofs.Places.{job-counts}
+use Rattle.rows.proofs.Measures.{most-total}
+use Rattle.ahead.specs.Lanes.{stepsOf, stepsTo}
+use Rattle.ahead.specs.Sums.{joined}
+use Rattle.ahead.proofs.Adding.{steps-begun, steps-more}
+use Rattle.ahead.proofs.Firsts.{joined-in, most-fewer}
 use Rattle.ahead.proofs.table.steps.Statement.{statement}
 use Rattle.ahead.proofs.table.steps.Tie as tie
-use Rattle.ahead.proofs.table.steps.Reads as reads
-use Rattle.ahead.proofs.table.steps.Lts as lts
-use Rattle.ahead.proofs.table.smaller.Reads as smaller-reads
-use Rattle.ahead.proofs.table.steps_of.Reads as steps-of-reads
-use Rattle.queues.proofs.arrive.Reads as arrive-reads
-use Rattle.queues.proofs.total.Reads as total-reads
 
 abbrev Inv-loop : tie.InvT-loop
-Inv-loop sizes queue sheet most least₀ place₀ least place = ?
+Inv-loop sizes queue sheet most least₀ place₀ least place = (place ≤ sheet .«job_count») × (least ≡ stepsTo (sizes .largest) (sizes .bound) (counted sheet) (queueIn (sizes .bound) queue) place)
 
 abbrev μ-loop : tie.MeasureT-loop
-μ-loop sizes queue sheet most least₀ place₀ least place = ?
+μ-loop sizes queue sheet most least₀ place₀ least place = sheet .«job_count» - place
 
--- src/table.rt:67:16
+-- the sheet keeps its ranges
+in-range : (c : tie.Start Inv-loop μ-loop) → Ranged (counted (c .args .t1))
+in-range c = ranged (counted (c .args .t1)) (c .pre .1)
+
+-- what the loop begins with
+began : (c : tie.After-total Inv-loop μ-loop) →
+    let a = c .before .before .before .before .args in
+    let w = queueIn (a .sizes .bound) (a .queue) in
+    (a .sizes .bound * a .sizes .largest - a .sizes .largest ≡ pred (a .sizes .bound) * a .sizes .largest) ×
+    (c .total .result ≡ total w (a .sizes .bound)) × (total w (a .sizes .bound) ≤ pred (a .sizes .bound) * a .sizes .largest)
+began c =
+    let start = c .before .before .before .before in
+    let a = start .args in (
+      most-fewer (a .sizes .largest) (a .sizes .bound) (start .pre .0 .bound-low),
+      c .total .ensures ∙ sym (total-in (a .sizes .bound) (a .queue) (a .sizes .bound) (le-refl (a .sizes .bound))),
+      start .pre .3,
+    )
+
 cast-most : tie.Need-cast-most Inv-loop μ-loop
-cast-most c = ?
+cast-most c = omega (arith, c .before .pre .0 .ranges .bound-high)
 
--- src/table.rt:67:16
 mul-most : tie.Need-mul-most Inv-loop μ-loop
-mul-most c = ?
+mul-most c = omega (arith, most-total (c .before .before .pre .0))
 
--- src/table.rt:67:16
 sub-most : tie.Need-sub-most Inv-loop μ-loop
-sub-most c = ?
+sub-most c =
+    let start = c .before .before .before in
+    omega (arith, mul-le-mul-right (start .args .sizes .largest) (start .pre .0 .bound-low))
 
--- src/table.rt:68:28
 total-requires : tie.Need-total-requires Inv-loop μ-loop
-total-requires c κs = ?
+total-requires c κs = omega (arith, c .before .before .before .pre .0 .ranges .bound-high)
 
--- src/table.rt:68:21
 sub-least : tie.Need-sub-least Inv-loop μ-loop
-sub-least c = ?
+sub-least c = omega (arith, began c)
 
--- src/table.rt:68:21
 add-least : tie.Need-add-least Inv-loop μ-loop
-add-least c = ?
+add-least c = omega (arith, began c, most-total (c .before .before .before .before .pre .0))
 
--- src/table.rt:70:5
 loop-holds : tie.Need-loop-holds Inv-loop μ-loop
-loop-holds c = ?
+loop-holds c =
+    let start = c .before .before .before .before in
+    let a = start .args in (
+      omega arith,
+      omega (arith, began c) ∙ steps-begun (a .sizes .largest) (a .sizes .bound) (counted (a .t1)) (queueIn (a .sizes .bound) (a .queue)),
+    )
 
--- src/table.rt:71:30
 cast-one : tie.Need-cast-one Inv-loop μ-loop
-cast-one c = ?
+cast-one c = omega arith
 
--- src/table.rt:71:19
 mul-one : tie.Need-mul-one Inv-loop μ-loop
-mul-one c = ?
+mul-one c = omega (arith, in-range (c .before .before .before .before .before .before) .jobs-high)
 
--- src/table.rt:71:19
 element-copy-out-one : tie.Need-element-copy-out-one Inv-loop μ-loop
-element-copy-out-one c = ?
+element-copy-out-one c = omega (arith, in-range (c .before .before .before .before .before .before) .jobs-high)
 
--- src/table.rt:72:13
 arrive-requires : tie.Need-arrive-requires Inv-loop μ-loop
-arrive-requires c κs = ?
+arrive-requires c κs =
+    let start = c .before .before .before .before .before .before .before in
+    let place = c .before .before .loop .place in
+    let low = c .before .loop-test .taken in (
+      start .pre .0 .ranges .bound-high,
+      subst (λ (x : Job). x .size ≤ 255) (job-counts (start .args .t1) place low) (in-range start .size-high place low),
+      start .pre .2,
+    )
 
--- src/table.rt:73:32
 steps-of-requires : tie.Need-steps-of-requires Inv-loop μ-loop
-steps-of-requires c κs = ?
+steps-of-requires c κs = c .before .before .before .before .before .before .before .before .pre .0
 
--- src/table.rt:73:9
 smaller-requires : tie.Need-smaller-requires Inv-loop μ-loop
-smaller-requires c κs = ?
+smaller-requires c κs = tt
 
--- src/table.rt:74:9
 add-place : tie.Need-add-place Inv-loop μ-loop
-add-place c = ?
+add-place c = omega arith
 
--- src/table.rt:70:5
 loop-less : tie.Need-loop-less Inv-loop μ-loop
-loop-less c = ?
+loop-less c = omega arith
 
--- src/table.rt:70:5
 loop-again : tie.Need-loop-again Inv-loop μ-loop
-loop-again c = ?
+loop-again c =
+    let l = c .before .before .before .before .before in
+    let start = l .before .before .before .before .before in
+    let a = start .args in
+    let w = queueIn (a .sizes .bound) (a .queue) in
+    let six : length (a .queue) ≡ 6 = omega (arith, start .good) in (
+      omega arith,
+      steps-more (a .sizes .largest) (a .sizes .bound) (counted (a .t1)) w (l .loop .place) (l .loop .inv .1)
+          (c .before .steps-of .ensures ∙
+          ap (stepsOf (a .sizes .largest) (a .sizes .bound))
+          (joined-in (a .sizes .bound) (a .queue) _ _ (start .pre .0 .ranges .bound-high) (omega (arith, start .pre .0 .ranges .bound-high, six)) (c .before .before .arrive .ensures) ∙
+          ap (λ (x : Job). arrive w (x .size) (x .deadline)) (sym (job-counts (a .t1) (l .loop .place) (c .before .before .before .before .loop-test .taken)))))
+          (c .smaller .ensures),
+    )
 
--- src/table.rt:63:1
 returns : tie.Need-returns Inv-loop μ-loop
-returns c = ?
+returns c =
+    let l = c .before in
+    let a = l .before .before .before .before .before .args in
+    let all : l .loop .place ≡ a .t1 .«job_count» = omega arith in
+    l .loop .inv .1 ∙ ap (stepsTo (a .sizes .largest) (a .sizes .bound) (counted (a .t1)) (queueIn (a .sizes .bound) (a .queue))) all
 
 pub steps-spec : {M : Type 1} → statement M
 steps-spec =
