@@ -35,6 +35,16 @@ better-left before r speed (some v) e (chosen b u) i =
 -- several
 
 module _ (speed : ℕ → ℕ) (cost : ℕ → Option ℕ) where
+  -- of no speeds there is no least
+  pub least-zero : leastTo speed cost 0 ≡ nothing
+  unfolding leastTo
+  least-zero = refl
+
+  -- and with one speed more it is the better of the least so far and that speed at its cost
+  pub least-suc : (j : ℕ) → leastTo speed cost (suc j) ≡ better (leastTo speed cost j) (speed j) (cost j)
+  unfolding leastTo
+  least-suc j = refl
+
   -- of speeds that all cost none there is no least
   nothing-least : (k : ℕ) → ((j : ℕ) → j < k → cost j ≡ none) → leastTo speed cost k ≡ nothing
   unfolding leastTo

@@ -1,5 +1,5 @@
-pub mod FirstPass
 pub mod Fits
+pub mod FirstPass
 pub mod SecondPass
 pub mod Backward
 pub mod Outcomes

@@ -13,8 +13,8 @@ use Rattle.model.specs.Plan.{PlanAnswer, LeavesBy, Filled, valueIn, placeAt, va
 use Rattle.model.specs.Refusal.{N, sheetRefusal}
 use Rattle.value.specs.Width.{Width}
 use Rattle.planner.specs.Calls.{IsPlan}
-use Rattle.planner.specs.Passes.{Sized}
-use Rattle.planner.specs.declared.sizes.Sizes.{Sizes}
+use Rattle.rows.specs.Sizes.{Sized}
+use Rattle.rows.specs.declared.sizes.Sizes.{Sizes}
 use Rattle.value.proofs.Filling.{fewer-fit}
 
 module _ (s : Counted) where

@@ -2,20 +2,22 @@
 -- over the lent values; what the calls promise is in Calls.antt and mentions none of this.
 use Prim.Native.Nat.{ℕ, suc, pred, _+_, _*_, _-_, _^_, _≤_, _<_}
 use mathlib.Core.Path.{_≡_}
-use mathlib.Core.List.{List, []}
+use mathlib.Core.List.{List}
 use mathlib.Core.Option.{Option, some}
-use lib.Dec.{leb}
 use lib.ListN.{length, getD}
-use Rattle.process.specs.Recursion.{plus, times, sumOrNone, only, Choice, nothing, chosen, better, worth, value, choice}
-use Rattle.model.specs.Counted.{Counted, weightAt, sizeAt, deadlineAt, W, M}
-use Rattle.model.specs.Plan.{processOf, queueAt, noSpeed, placeAt, valuesNeeded, planNeeded}
-use Rattle.model.specs.Queue.{Queue, total, queueIn, bearable, bearableQueues, queueCount, numberOf, run, arrive}
+use Rattle.process.specs.Recursion.{Choice, value, choice}
+use Rattle.model.specs.Counted.{Counted, weightAt, W, M}
+use Rattle.model.specs.Plan.{processOf, queueAt, placeAt, valuesNeeded, planNeeded}
+use Rattle.model.specs.Queue.{Queue, queueCount}
 use Rattle.model.specs.Refusal.{N, sheetRefusal}
 use Rattle.queues.specs.Counts.{HoldsCounts}
-use Rattle.queues.specs.Slot.{kept}
 use Rattle.value.specs.Width.{Width, readAt}
 use Rattle.value.specs.Fills.{Fills, numberAt}
-use Rattle.planner.specs.declared.sizes.Sizes.{Sizes}
+use Rattle.rows.specs.Rows.{Row}
+use Rattle.rows.specs.Sizes.{Sized}
+use Rattle.rows.specs.declared.sizes.Sizes.{Sizes}
+use Rattle.ahead.specs.Sums.{afterWith, sumTo}
+use Rattle.choose.specs.Choice.{byteOf}
 
 -- the recursion, of a sheet
 
@@ -29,25 +31,16 @@ choiceWith s k w = choice (processOf s) (s .jobCount) (weightAt s) k (valueWith 
 
 -- what is ahead of a queue after a slot, before the arrival, with k slots left: the weighted sum over the first n entries
 unfoldable pub aheadTo : Counted → ℕ → Queue → ℕ → Option ℕ
-aheadTo s k v n = sumOrNone (λ i. times (weightAt s i) (valueWith s k (arrive v (sizeAt s i) (deadlineAt s i)))) n
+aheadTo s k v n = sumTo s (valueWith s k) v n
 
 abbrev pub aheadOf : Counted → ℕ → Queue → Option ℕ
 aheadOf s k v = aheadTo s k v (s .jobCount)
 
--- the queues after a slot: "with w(D) standing for w(D+1)" the last total stands twice, and they are numbered by the positions before it
+-- the queues after a slot, by their numbers
 abbrev pub queueAfter : Counted → ℕ → Queue
-queueAfter s i = kept (getD (bearableQueues (M s) (pred (s .bound))) i [])
+queueAfter s i = afterWith (M s) (s .bound) i
 
--- a row in a buffer of values
-
--- what the row that begins at place `from` says of a queue: none of one that is not bearable
-unfoldable pub valueInRow : Width → ℕ → List ℕ → ℕ → Queue → Option ℕ
-valueInRow width largest l from w = only (bearable largest w) (readAt width l (from + numberOf largest w))
-
--- n values stand there, those that f gives
-pub record Row (width : Width) (f : ℕ → Option ℕ) (from n : ℕ) (l : List ℕ) : Type 0 where
-  pub room : (from + n) * width .places ≤ length l
-  pub right : (i : ℕ) → i < n → readAt width l (from + i) ≡ f i
+-- the rows that the passes are made over
 
 -- the values of all queues with k slots left
 abbrev pub ValueRow : Width → Counted → ℕ → ℕ → List ℕ → Type 0
@@ -56,31 +49,6 @@ ValueRow width s k from l = Row width (λ i. valueWith s k (queueAt s i)) from (
 -- what is ahead of all queues after a slot, with k slots left then
 abbrev pub AheadRow : Width → Counted → ℕ → List ℕ → Type 0
 AheadRow width s k l = Row width (λ i. aheadOf s k (queueAfter s i)) 0 (queueCount (M s) (pred (s .bound))) l
-
--- what a speed costs in a queue of D positions, where `ahead` is the buffer of what is ahead: the scaled energy and what is ahead after it
-unfoldable pub costIn : Width → ℕ → ℕ → List ℕ → Option ℕ → Queue → ℕ → ℕ → Option ℕ
-costIn width largest D ahead scale w speed energy =
-    only (leb (total w 1) speed) (plus (valueInRow width largest ahead 0 (queueIn (pred D) (run w speed))) (times energy scale))
-
--- a choice as the code keeps it: a speed, 255 where there is none, and a value
-abbrev pub byteOf : Choice → ℕ
-byteOf nothing = noSpeed
-byteOf (chosen a v) = a
-
-pub record IsChoice (c : Choice) (speed : ℕ) (r : Option ℕ) : Type 0 where
-  pub speed-is : speed ≡ byteOf c
-  pub value-is : r ≡ worth c
-
--- one speed more: whatever the choice was before, it is now the better of that and this speed at its cost
-abbrev pub IsBetter : ℕ → Option ℕ → ℕ → Option ℕ → ℕ → Option ℕ → Type 0
-IsBetter before r a cost speed q = (c : Choice) → IsChoice c before r → IsChoice (better c a cost) speed q
-
--- what is worked out once for a sheet: M, D, N, and how many queues there are after a slot
-pub record Sized (s : Counted) (sizes : Sizes) : Type 0 where
-  pub largest-is : sizes .largest ≡ M s
-  pub bound-is : sizes .bound ≡ s .bound
-  pub queues-is : sizes .queues ≡ N s
-  pub after-is : sizes .after ≡ queueCount (M s) (pred (s .bound))
 
 -- a slot as the code describes it, by the slots left after it and its scale: it is one of the sheet's, and the scale is W to the power of
 -- the slots left, this one counted

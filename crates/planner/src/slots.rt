@@ -105,18 +105,48 @@ fn fill_row(
     );
 }
 
+// One slot: both passes.
+fn fill_slot(
+    counts: &[u32; 2352],
+    sheet: Sheet,
+    sizes: Sizes,
+    slot: Slot,
+    ahead: &mut [u64],
+    values: &mut [u64],
+    plan: &mut [u8],
+    entry_lanes: &[u32],
+    speed_lanes: &[u32],
+)
+    requires { ⌜ Ready (now counts) (counted sheet) sizes (slot .left) (valueOf (slot .scale)) ×
+        ValueRow width (counted sheet) (slot .left) (slot .next) (now values) × (sizes .after * width .places ≤ length (now ahead)) ×
+        ((slot .this + sizes .queues) * width .places ≤ length (now values)) × (slot .row + sizes .queues ≤ length (now plan)) ⌝ }
+    requires lanes { ⌜ EntryTable (sizes .largest) (sizes .bound) (counted sheet) (now «entry_lanes») ×
+        SpeedTable (sizes .largest) (sizes .bound) (counted sheet) (now «speed_lanes») ⌝ }
+    ensures { λ r. ⌜ Planned width (counted sheet) (slot .left) (slot .this) (slot .row)
+        (now (values .entry)) (now (plan .entry)) (now (values .exit)) (now (plan .exit)) ⌝ }
+{
+    fill_ahead(counts, sheet, sizes, slot, values, ahead, entry_lanes);
+    fill_row(counts, sheet, sizes, slot, ahead, values, plan, speed_lanes);
+}
+
 // Every slot, the last one first. There are at most 7,084 queues after a slot where there are at most 65,535 queues.
-fn fill_slots(counts: &[u32; 2352], sheet: Sheet, sizes: Sizes, values: &mut [u64], plan: &mut [u8])
+fn fill_slots(
+    counts: &[u32; 2352],
+    sheet: Sheet,
+    sizes: Sizes,
+    values: &mut [u64],
+    plan: &mut [u8],
+    entry_lanes: &[u32],
+    speed_lanes: &[u32],
+)
     requires { ⌜ Prepared (now counts) (counted sheet) sizes × (planNeeded (counted sheet) ≤ length (now plan)) ×
         (valuesNeeded (counted sheet) * width .places ≤ length (now values)) ×
         PlannedFrom width (counted sheet) 0 (now values) (now plan) (now values) (now plan) ⌝ }
+    requires lanes { ⌜ EntryTable (sizes .largest) (sizes .bound) (counted sheet) (now «entry_lanes») ×
+        SpeedTable (sizes .largest) (sizes .bound) (counted sheet) (now «speed_lanes») ⌝ }
     ensures { λ r. ⌜ PlannedFrom width (counted sheet) (sheet .horizon)
         (now (values .entry)) (now (plan .entry)) (now (values .exit)) (now (plan .exit)) ⌝ }
 {
-    let mut speed_lanes = [0; 49606];
-    let mut entry_lanes = [0; 33979];
-    choose::fill_table(counts, sheet, sizes, &mut speed_lanes);
-    ahead::fill_table(counts, sheet, sizes, &mut entry_lanes);
     // 7,084 values, at one place each
     let mut ahead = [0; 7084];
     let weight_sum = weights(sheet);
@@ -125,29 +155,41 @@ fn fill_slots(counts: &[u32; 2352], sheet: Sheet, sizes: Sizes, values: &mut [u6
     while left < sheet.horizon {
         let next_scale = value::add(value::of(0), weight_sum, scale);
         let slot = slot_with(sizes.queues, sheet.horizon, left, next_scale);
-        fill_ahead(counts, sheet, sizes, slot, values, &mut ahead, &entry_lanes);
-        fill_row(
+        fill_slot(
             counts,
             sheet,
             sizes,
             slot,
-            &ahead,
+            &mut ahead,
             values,
             plan,
-            &speed_lanes,
+            entry_lanes,
+            speed_lanes,
         );
         scale = next_scale;
         left += 1;
     }
 }
 
-// The end row and every slot.
+// The end row and every slot. The lanes have no slot in them, and are worked out once.
 pub fn fill(counts: &[u32; 2352], sheet: Sheet, sizes: Sizes, values: &mut [u64], plan: &mut [u8])
     requires { ⌜ Prepared (now counts) (counted sheet) sizes × (planNeeded (counted sheet) ≤ length (now plan)) ×
         (valuesNeeded (counted sheet) * width .places ≤ length (now values)) ⌝ }
     ensures { λ r. ⌜ PlannedFrom width (counted sheet) (sheet .horizon)
         (now (values .entry)) (now (plan .entry)) (now (values .exit)) (now (plan .exit)) ⌝ }
 {
+    let mut entry_lanes = [0; 33979];
+    let mut speed_lanes = [0; 49606];
+    ahead::fill_table(counts, sheet, sizes, &mut entry_lanes);
+    choose::fill_table(counts, sheet, sizes, &mut speed_lanes);
     fill_end(sizes.queues, place(sizes.queues, sheet.horizon, 0), values);
-    fill_slots(counts, sheet, sizes, values, plan);
+    fill_slots(
+        counts,
+        sheet,
+        sizes,
+        values,
+        plan,
+        &entry_lanes,
+        &speed_lanes,
+    );
 }
