@@ -1,5 +1,5 @@
 -- The rows of a plan, the end row first and then slot by slot from the last one back: where each row stands in the lent memory, what a slot
--- finds there, and that the rows behind it stay as they are while it fills its own. The proofs of src/rows.rt stand on these laws, which
+-- finds there, and that the rows behind it stay as they are while it fills its own. The proofs of src/slots.rt stand on these laws, which
 -- are over any width of a value.
 use Prim.Native.Nat.{ℕ, zero, suc, pred, _+_, _*_, _-_, _^_, _≤_, _<_}
 use mathlib.Core.Path.{_≡_, refl, sym, ap, _∙_, subst}
@@ -15,25 +15,14 @@ use Rattle.model.specs.Plan.{queueAt, placeAt, valuesNeeded, planNeeded}
 use Rattle.model.specs.Queue.{queueCount}
 use Rattle.model.specs.Refusal.{N, valueLimit}
 use Rattle.model.proofs.Queues.{listed-bearable}
-use Rattle.model.proofs.Refusal.{Accepted, M-low, M-high, N-is}
-use Rattle.queues.proofs.Fewer.{few-after}
+use Rattle.model.proofs.Refusal.{Accepted, N-is}
 use Rattle.value.specs.Fills.{Fills, numberAt}
 use Rattle.value.specs.Width.{Width, readAt, Below}
 use Rattle.value.proofs.Filling.{fewer-fit, read-local, number-local, fills-outside}
-use Rattle.planner.specs.Passes.{valueWith, choiceWith, aheadOf, queueAfter, byteOf, ValueRow, AheadRow, InPlan, Planned, PlannedFrom}
+use Rattle.choose.specs.Choice.{byteOf}
+use Rattle.planner.specs.Passes.{valueWith, choiceWith, aheadOf, queueAfter, ValueRow, AheadRow, InPlan, Planned, PlannedFrom}
 use Rattle.planner.proofs.Fits.{scale-fits}
 use Rattle.planner.proofs.FirstPass.{value-last}
-
--- of an accepted sheet
-
--- the buffer of what is ahead has room for the queues after a slot
-pub after-room : (s : Counted) → Accepted s → queueCount (M s) (pred (s .bound)) ≤ 7084
-after-room s a = go (s .bound) (a .ranged .bound-low) (a .ranged .bound-high) (omega (arith, a .queues-high, N-is s))
-  where
-    go : (D : ℕ) → 1 ≤ D → D ≤ 6 → queueCount (M s) D ≤ 65535 → queueCount (M s) (pred D) ≤ 7084
-    go zero low high few = absurd (omega arith)
-    go (suc D) low high few =
-        few-after (M s) D (record { speed-low = M-low s (a .ranged); speed-high = M-high s (a .ranged); bound-high = high }) few
 
 -- the scale, W to the power of the slots left
 

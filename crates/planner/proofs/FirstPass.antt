@@ -18,7 +18,9 @@ use Rattle.model.proofs.Recursion as recursion
 use Rattle.model.proofs.Refusal.{Accepted, accepted, fields-right, N-is}
 use Rattle.queues.specs.Blocks.{queueWith}
 use Rattle.queues.proofs.Slots.{length-kept}
-use Rattle.value.specs.Width.{Width, Below}
+use Rattle.value.specs.Fills.{Fills}
+use Rattle.value.specs.Width.{Width, readAt, Below}
+use Rattle.value.proofs.Filling.{fills-same}
 use Rattle.rows.specs.Rows.{valueInRow, Row}
 use Rattle.rows.specs.Sizes.{Sized, Measured}
 use Rattle.rows.specs.declared.sizes.Sizes.{Sizes}
@@ -70,7 +72,7 @@ after-long s a i h =
     length-kept (queueWith (M s) (pred (s .bound)) i) ∙
     omega (arith, listed-bearable (M s) (pred (s .bound)) i h .0, a .ranged .bound-low)
 
-pub sums-told : (width : Width) (s : Counted) {sizes : Sizes} → Accepted s → Sized s sizes → (k from : ℕ) (l : List ℕ) → ValueRow width s k from l →
+sums-told : (width : Width) (s : Counted) {sizes : Sizes} → Accepted s → Sized s sizes → (k from : ℕ) (l : List ℕ) → ValueRow width s k from l →
     (i n : ℕ) → i < sizes .after → sumLeft width s sizes from l i n ≡ aheadTo s k (queueAfter s i) n
 unfolding aheadTo
 sums-told width s {sizes} a z k from l row i n h =
@@ -87,7 +89,7 @@ module _ (width : Width) (roomy : valueLimit < width .limit) {counts : List ℕ}
   abbrev is-accepted : Accepted s
   is-accepted = accepted s (ready .prepared .accepted)
 
-  pub ready-measured : Measured sizes
+  ready-measured : Measured sizes
   ready-measured = measured s sizes (accepted s (ready .prepared .accepted)) (ready .prepared .sized)
 
   pub first-given : {next : ℕ} {values lanes : List ℕ} → ValueRow width s left next values → EntryTable (sizes .largest) (sizes .bound) s lanes →
@@ -103,3 +105,11 @@ module _ (width : Width) (roomy : valueLimit < width .limit) {counts : List ℕ}
             (sym (sums-told width s is-accepted (ready .prepared .sized) left next values row i n h))
             (ahead-fits s is-accepted width roomy left (queueAfter s i) n (ready .in-plan .left-low) k);
       }
+
+  -- and what it leaves is what is ahead
+  pub first-left : {next : ℕ} {values ahead₀ ahead : List ℕ} → ValueRow width s left next values →
+      Fills (width .places) (readAt width) (λ i. sumLeft width s sizes next values i (s .jobCount)) 0 (sizes .after) ahead₀ ahead →
+      Fills (width .places) (readAt width) (λ i. aheadOf s left (queueAfter s i)) 0 (sizes .after) ahead₀ ahead
+  first-left {next} {values} row =
+      fills-same (width .places) (readAt width)
+      (λ i h. sums-told width s is-accepted (ready .prepared .sized) left next values row i (s .jobCount) h)

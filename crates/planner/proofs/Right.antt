@@ -21,7 +21,8 @@ use Rattle.model.specs.Refusal.{N}
 use Rattle.value.proofs.OnePlace.{read-is}
 use Rattle.value.specs.Narrow as narrow
 use Rattle.value.specs.Width.{Width, readAt}
-use Rattle.planner.specs.Passes.{valueWith, choiceWith, byteOf, PlannedFrom}
+use Rattle.choose.specs.Choice.{byteOf}
+use Rattle.planner.specs.Passes.{valueWith, choiceWith, PlannedFrom}
 use Rattle.planner.proofs.FirstPass.{value-chosen}
 
 -- lists that are equal from n on, place by place

@@ -5,8 +5,8 @@ use Rattle.model.specs.Counted.{counted}
 use Rattle.value.specs.Narrow.{width}
 use Rattle.planner.proofs.Backward.{end-room, planned-none, planned-since}
 use Rattle.planner.proofs.Outcomes.{sizes-small}
-use Rattle.planner.proofs.rows.fill.Statement.{statement}
-use Rattle.planner.proofs.rows.fill.Tie as tie
+use Rattle.planner.proofs.slots.fill.Statement.{statement}
+use Rattle.planner.proofs.slots.fill.Tie as tie
 
 place-requires : tie.Need-place-requires
 place-requires c κs =

@@ -3,8 +3,8 @@ use borrow.Author.Needs.{needs}
 use Rattle.model.specs.Counted.{counted}
 use Rattle.value.specs.Narrow.{width}
 use Rattle.planner.proofs.Backward.{ahead-stands}
-use Rattle.planner.proofs.rows.fill_slot.Statement.{statement}
-use Rattle.planner.proofs.rows.fill_slot.Tie as tie
+use Rattle.planner.proofs.slots.fill_slot.Statement.{statement}
+use Rattle.planner.proofs.slots.fill_slot.Tie as tie
 
 fill-ahead-requires : tie.Need-fill-ahead-requires
 fill-ahead-requires c κs = search needs
@@ -12,14 +12,12 @@ fill-ahead-requires c κs = search needs
 fill-row-requires : tie.Need-fill-row-requires
 fill-row-requires c κs =
     let called = c .before .before .before .before .before in
-    let start = called .before .before .before .before .before .before in
-    let pre = start .pre in (
-      pre .0,
-      ahead-stands width (counted (start .args .sheet)) (start .args .slot .left) (start .args .sizes .after) (pre .0 .prepared .sized .after-is)
-          (pre .2) (called .fill-ahead .ensures),
-      pre .3,
-      pre .4,
-    )
+    let start = called .before .before .before .before .before .before .before .before in
+    let pre = start .pre .0 in
+    let stands =
+    ahead-stands width (counted (start .args .sheet)) (start .args .slot .left) (start .args .sizes .after) (pre .0 .prepared .sized .after-is)
+    (pre .2) (called .fill-ahead .ensures) in
+    ((pre .0, stands, pre .3, pre .4), start .pre .1 .1)
 
 same-length : tie.Need-same-length
 same-length c = search needs

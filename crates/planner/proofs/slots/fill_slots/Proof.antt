@@ -13,8 +13,8 @@ use Rattle.value.specs.Narrow.{width, valueOf}
 use Rattle.planner.specs.Passes.{PlannedFrom}
 use Rattle.planner.proofs.Backward.{after-room, scale-next, scale-room, Stands, slot-stands, slot-in-plan, values-room, plan-room, next-stands, planned-more}
 use Rattle.planner.proofs.Outcomes.{sizes-small}
-use Rattle.planner.proofs.rows.fill_slots.Statement.{statement}
-use Rattle.planner.proofs.rows.fill_slots.Tie as tie
+use Rattle.planner.proofs.slots.fill_slots.Statement.{statement}
+use Rattle.planner.proofs.slots.fill_slots.Tie as tie
 
 abbrev Inv-loop : tie.InvT-loop
 Inv-loop counts sheet sizes values₀ plan₀ ahead₀ all scale₀ left₀ values plan ahead scale left =

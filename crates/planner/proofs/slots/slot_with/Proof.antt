@@ -2,8 +2,8 @@
 use mathlib.Core.Path.{refl}
 use borrow.Author.Needs.{needs}
 use Rattle.planner.proofs.Backward.{row-next, row-back}
-use Rattle.planner.proofs.rows.slot_with.Statement.{statement}
-use Rattle.planner.proofs.rows.slot_with.Tie as tie
+use Rattle.planner.proofs.slots.slot_with.Statement.{statement}
+use Rattle.planner.proofs.slots.slot_with.Tie as tie
 
 sub-this : tie.Need-sub-this
 sub-this c = search needs
