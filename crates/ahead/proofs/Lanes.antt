@@ -19,8 +19,8 @@ use Rattle.queues.specs.Blocks.{queueWith, firstOf, startOf, lowestOf, Alike, S
 use Rattle.queues.specs.Slot.{kept}
 use Rattle.queues.proofs.Blocks.{number-shift, risen-none, risen-less, block-place, block-alike, first-queue}
 use Rattle.queues.proofs.Slots.{length-kept, total-kept, last-kept, bearable-kept}
+use Rattle.rows.specs.Rows.{afterWith}
 use Rattle.ahead.specs.Lanes.{firstAfter, liftOf, stepsOf, laneOf, Lane}
-use Rattle.ahead.specs.Sums.{afterWith}
 use Rattle.ahead.proofs.Firsts.{no-position}
 
 -- where a queue is bearable

@@ -2,4 +2,4 @@ pub mod Firsts
 pub mod Lanes
 pub mod Adding
 pub mod Passing
-pub mod Fits
+pub mod AnyRow

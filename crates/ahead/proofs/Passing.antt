@@ -22,7 +22,7 @@ use Rattle.queues.proofs.Slots.{length-kept, last-kept}
 use Rattle.value.specs.Fills.{Fills, FillsWhere}
 use Rattle.value.specs.Width.{Width, readAt}
 use Rattle.value.proofs.Filling.{read-local}
-use Rattle.rows.specs.Rows.{valueInRow}
+use Rattle.rows.specs.Rows.{valueInRow, afterWith}
 use Rattle.rows.specs.Sizes.{Measured}
 use Rattle.rows.specs.Tables.{lineAt}
 use Rattle.rows.specs.declared.sizes.Sizes.{Sizes}
@@ -32,7 +32,7 @@ use Rattle.rows.proofs.Rows.{none-in-row, read-in-row}
 use Rattle.rows.proofs.Tables.{line-within}
 use Rattle.ahead.specs.Lanes.{firstAfter, liftOf, stepsOf, stepsTo, laneOf, Lane}
 use Rattle.ahead.specs.Pass.{Given, Within, sumLeft, stepped}
-use Rattle.ahead.specs.Sums.{afterWith, joined, sumTo}
+use Rattle.ahead.specs.Sums.{joined, sumTo}
 use Rattle.ahead.proofs.Adding.{sum-none, steps-each, steps-past}
 use Rattle.ahead.proofs.Firsts.{first-of, lowest-upto, most-fewer}
 use Rattle.ahead.proofs.Lanes.{lane-says}

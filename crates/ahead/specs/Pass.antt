@@ -8,11 +8,11 @@ use Rattle.model.specs.Counted.{Counted}
 use Rattle.model.specs.Refusal.{fieldsRefusal}
 use Rattle.queues.specs.Blocks.{startOf, lowestOf, risen}
 use Rattle.value.specs.Width.{Width, Below}
-use Rattle.rows.specs.Rows.{valueInRow}
+use Rattle.rows.specs.Rows.{valueInRow, afterWith}
 use Rattle.rows.specs.Sizes.{Measured}
 use Rattle.rows.specs.declared.sizes.Sizes.{Sizes}
 use Rattle.ahead.specs.Lanes.{firstAfter, stepsTo, EntryTable}
-use Rattle.ahead.specs.Sums.{afterWith, sumTo}
+use Rattle.ahead.specs.Sums.{sumTo}
 
 -- what is ahead of the queue after a slot with number i, over the first n entries, by the row that begins at place `next`
 abbrev pub sumLeft : Width → Counted → Sizes → ℕ → List ℕ → ℕ → ℕ → Option ℕ

@@ -1,18 +1,12 @@
 -- What is ahead of a queue after a slot, before the arrival: the weighted sum over the entries of what a function gives of the queue with
 -- each entry's arrival. It is said of any function from queues to values, none as soon as one of them is none.
-use Prim.Native.Nat.{ℕ, pred}
+use Prim.Native.Nat.{ℕ}
 use mathlib.Core.Option.{Option}
 use Rattle.process.specs.Recursion.{times, sumOrNone}
 use Rattle.model.specs.Counted.{Counted, weightAt, sizeAt, deadlineAt}
 use Rattle.model.specs.Queue.{Queue, arrive}
-use Rattle.queues.specs.Blocks.{queueWith}
-use Rattle.queues.specs.Slot.{kept}
 
--- the queues after a slot: "with w(D) standing for w(D+1)" the last total stands twice, and they are numbered by the positions before it
-abbrev pub afterWith : ℕ → ℕ → ℕ → Queue
-afterWith M D n = kept (queueWith M (pred D) n)
-
--- such a queue with the arrival of the entry at place j
+-- a queue with the arrival of the entry at place j
 abbrev pub joined : Counted → Queue → ℕ → Queue
 joined s v j = arrive v (sizeAt s j) (deadlineAt s j)
 

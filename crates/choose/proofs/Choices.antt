@@ -86,3 +86,12 @@ module _ (speed : ℕ → ℕ) (cost : ℕ → Option ℕ) where
           pick : (t : Bool) → byteOf (choose t (chosen (speed n) v) (chosen b u)) ≤ 255
           pick true = k
           pick false = h
+
+-- the least over speeds whose costs are the same is the same
+pub least-same : (speed : ℕ → ℕ) (cost cost′ : ℕ → Option ℕ) (n : ℕ) → ((j : ℕ) → j < n → cost j ≡ cost′ j) →
+    leastTo speed cost n ≡ leastTo speed cost′ n
+unfolding leastTo
+least-same speed cost cost′ zero same = refl
+least-same speed cost cost′ (suc n) same =
+    ap (λ (c : Choice). better c (speed n) (cost n)) (least-same speed cost cost′ n (λ j h. same j (omega arith))) ∙
+    ap (better (leastTo speed cost′ n) (speed n)) (same n (omega arith))

@@ -13,14 +13,14 @@ use Rattle.model.proofs.Tests.{holds-true}
 use Rattle.value.specs.Width.{Width, readAt}
 use Rattle.rows.specs.Rows.{valueInRow}
 use Rattle.rows.proofs.Rows.{none-in-row, read-in-row}
-use Rattle.choose.specs.Choice.{costIn}
+use Rattle.choose.specs.Choice.{costBy, aheadIn}
 use Rattle.choose.specs.Lanes.{afterOf, leadsOn}
 use Rattle.choose.proofs.Lanes.{leads-parts}
 
 module _ (width : Width) (M D : ℕ) (ahead : List ℕ) (scale : Option ℕ) (w : Queue) (speed energy : ℕ) where
   -- none where it does not
-  pub cost-none : leadsOn M D w speed ≡ false → costIn width M D ahead scale w speed energy ≡ none
-  unfolding costIn
+  pub cost-none : leadsOn M D w speed ≡ false → costBy (aheadIn width M D ahead) scale w speed energy ≡ none
+  unfolding costBy
   cost-none e = go (leb (total w 1) speed) refl
     where
       go : (b : Bool) → leb (total w 1) speed ≡ b → only b (plus (valueInRow width M ahead 0 (afterOf D w speed)) (times energy scale)) ≡ none
@@ -31,8 +31,8 @@ module _ (width : Width) (M D : ℕ) (ahead : List ℕ) (scale : Option ℕ) (w 
 
   -- else what the buffer has at the number of the queue after the slot, and the scaled energy
   pub cost-some : T (leadsOn M D w speed) →
-      costIn width M D ahead scale w speed energy ≡ plus (readAt width ahead (numberOf M (afterOf D w speed))) (times energy scale)
-  unfolding costIn
+      costBy (aheadIn width M D ahead) scale w speed energy ≡ plus (readAt width ahead (numberOf M (afterOf D w speed))) (times energy scale)
+  unfolding costBy
   cost-some t =
       let parts = leads-parts M D w speed t in
       ap (λ (b : Bool). only b (plus (valueInRow width M ahead 0 (afterOf D w speed)) (times energy scale)))

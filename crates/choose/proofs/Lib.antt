@@ -2,4 +2,4 @@ pub mod Lanes
 pub mod Costs
 pub mod Choices
 pub mod Passing
-pub mod Fits
+pub mod AnyRow

@@ -1,5 +1,5 @@
--- What the second pass works out in one queue: what each speed costs, by a buffer of what is ahead after a slot, and the least over the
--- speeds. It is said over any width of a value, and of whatever the buffer says.
+-- What the second pass works out in one queue: what each speed costs, where any function says what is ahead of the queue after the slot, and
+-- the least over the speeds. The pass itself goes by what a buffer says.
 use Prim.Native.Nat.{ℕ, zero, suc, pred}
 use mathlib.Core.Path.{_≡_}
 use mathlib.Core.List.{List}
@@ -12,23 +12,32 @@ use Rattle.model.specs.Queue.{Queue, total, queueIn, run}
 use Rattle.value.specs.Width.{Width}
 use Rattle.rows.specs.Rows.{valueInRow}
 
--- what a speed costs in a queue of D positions, where `ahead` is the buffer of what is ahead: the scaled energy and what is ahead after it
-unfoldable pub costIn : Width → ℕ → ℕ → List ℕ → Option ℕ → Queue → ℕ → ℕ → Option ℕ
-costIn width largest D ahead scale w speed energy =
-    only (leb (total w 1) speed) (plus (valueInRow width largest ahead 0 (queueIn (pred D) (run w speed))) (times energy scale))
+-- what a speed costs in a queue: none below w(1), else what is ahead of the queue after the slot and the scaled energy
+unfoldable pub costBy : (Queue → Option ℕ) → Option ℕ → Queue → ℕ → ℕ → Option ℕ
+costBy g scale w speed energy = only (leb (total w 1) speed) (plus (g (run w speed)) (times energy scale))
 
 -- the least over the first j of several speeds at their costs; of two that cost the same the first
 unfoldable pub leastTo : (ℕ → ℕ) → (ℕ → Option ℕ) → ℕ → Choice
 leastTo speed cost zero = nothing
 leastTo speed cost (suc j) = better (leastTo speed cost j) (speed j) (cost j)
 
+-- the least over the speeds of a sheet
+abbrev pub leastBy : (Queue → Option ℕ) → Counted → Option ℕ → Queue → Choice
+leastBy g s scale w = leastTo (speedAt s) (λ j. costBy g scale w (speedAt s j) (energyAt s j)) (s .speedCount)
+
+-- by the buffer `ahead`, of queues of D positions
+
+-- what it says of a queue after a slot
+abbrev pub aheadIn : Width → ℕ → ℕ → List ℕ → Queue → Option ℕ
+aheadIn width largest D ahead v = valueInRow width largest ahead 0 (queueIn (pred D) v)
+
 -- what the speed at place j of the sheet costs
 abbrev pub costAt : Width → ℕ → ℕ → Counted → List ℕ → Option ℕ → Queue → ℕ → Option ℕ
-costAt width largest D s ahead scale w j = costIn width largest D ahead scale w (speedAt s j) (energyAt s j)
+costAt width largest D s ahead scale w j = costBy (aheadIn width largest D ahead) scale w (speedAt s j) (energyAt s j)
 
--- the least over the speeds of the sheet
+-- and the least
 abbrev pub leastIn : Width → ℕ → ℕ → Counted → List ℕ → Option ℕ → Queue → Choice
-leastIn width largest D s ahead scale w = leastTo (speedAt s) (costAt width largest D s ahead scale w) (s .speedCount)
+leastIn width largest D s ahead scale w = leastBy (aheadIn width largest D ahead) s scale w
 
 -- a choice as the code keeps it: a speed, 255 where there is none, and a value
 abbrev pub byteOf : Choice → ℕ

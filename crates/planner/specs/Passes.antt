@@ -13,10 +13,10 @@ use Rattle.model.specs.Refusal.{N, sheetRefusal}
 use Rattle.queues.specs.Counts.{HoldsCounts}
 use Rattle.value.specs.Width.{Width, readAt}
 use Rattle.value.specs.Fills.{Fills, numberAt}
-use Rattle.rows.specs.Rows.{Row}
+use Rattle.rows.specs.Rows.{Row, afterWith}
 use Rattle.rows.specs.Sizes.{Sized}
 use Rattle.rows.specs.declared.sizes.Sizes.{Sizes}
-use Rattle.ahead.specs.Sums.{afterWith, sumTo}
+use Rattle.ahead.specs.Sums.{sumTo}
 use Rattle.choose.specs.Choice.{byteOf}
 
 -- the recursion, of a sheet

@@ -21,20 +21,21 @@ ranges-fewer r = record { speed-low = r .speed-low; speed-high = r .speed-high; 
 pub one-fewer : (D : ℕ) → D - 1 ≡ pred D
 one-fewer D = omega arith
 
+-- what is said of the sizes of a sheet is said of its M and D
+pub sized-same : {s : Counted} {sizes : Sizes} {A : Type 0} → Sized s sizes → (f : ℕ → ℕ → A) → f (sizes .largest) (sizes .bound) ≡ f (M s) (s .bound)
+sized-same {s} {sizes} z f = ap (λ (m : ℕ). f m (sizes .bound)) (z .largest-is) ∙ ap (f (M s)) (z .bound-is)
+
 -- the sizes of an accepted sheet are the passes'
 pub measured : (s : Counted) (sizes : Sizes) → Accepted s → Sized s sizes → Measured sizes
 measured s sizes a z =
     record {
       ranges = ranges-of (a .ranged) (z .largest-is) (omega (arith, z .bound-is));
       bound-low = omega (arith, a .ranged .bound-low, z .bound-is);
-      queues-is = z .queues-is ∙ N-is s ∙ sym (same (λ D. D));
-      after-is = z .after-is ∙ sym (same pred);
-      blocks-is = z .blocks-is ∙ sym (same (λ D. pred (pred D)));
+      queues-is = z .queues-is ∙ N-is s ∙ sym (sized-same z queueCount);
+      after-is = z .after-is ∙ sym (sized-same z (λ m D. queueCount m (pred D)));
+      blocks-is = z .blocks-is ∙ sym (sized-same z (λ m D. queueCount m (pred (pred D))));
       queues-high = omega (arith, z .queues-is, a .queues-high);
     }
-  where
-    same : (f : ℕ → ℕ) → queueCount (sizes .largest) (f (sizes .bound)) ≡ queueCount (M s) (f (s .bound))
-    same f = ap (λ (m : ℕ). queueCount m (f (sizes .bound))) (z .largest-is) ∙ ap (λ (D : ℕ). queueCount (M s) (f D)) (z .bound-is)
 
 -- what follows from there being few queues
 

@@ -1,20 +1,24 @@
 -- What a row says of a queue (specs/Rows.antt), at any width of a value.
-use Prim.Native.Nat.{ℕ, _+_, _*_, _≤_, _<_}
+use Prim.Native.Nat.{ℕ, suc, pred, _+_, _*_, _≤_, _<_}
 use mathlib.Core.Path.{_≡_, refl, sym, ap, _∙_, subst}
 use mathlib.Core.Bool.{Bool, true, false}
 use mathlib.Core.List.{List, []}
 use mathlib.Core.Option.{Option, none}
+use native.Mathlib.Omega.{arith}
 use lib.Dec.{T}
 use lib.ListN.{length}
 use Rattle.process.specs.Recursion.{only}
-use Rattle.model.specs.Queue.{Queue, bearable, queueCount, numberOf}
-use Rattle.model.proofs.Queues.{number-below, number-place}
+use Rattle.model.specs.Queue.{Queue, total, NeverFalls, queueIn, bearable, queueCount, numberOf, run}
+use Rattle.model.proofs.Longer.{run-never-falls}
+use Rattle.model.proofs.Queues.{number-below, number-place, length-in, length-run}
 use Rattle.queues.specs.Blocks.{queueWith}
+use Rattle.queues.specs.Slot.{kept}
+use Rattle.queues.proofs.Slots.{run-kept, run-bearable}
 use Rattle.value.specs.Width.{Width, readAt}
-use Rattle.rows.specs.Rows.{valueInRow, Row}
+use Rattle.rows.specs.Rows.{valueInRow, Row, RowOf, RowAfter}
 
 -- a test changes no value that is none where the test fails
-pub only-kept : (b : Bool) (r : Option ℕ) → (b ≡ false → r ≡ none) → only b r ≡ r
+only-kept : (b : Bool) (r : Option ℕ) → (b ≡ false → r ≡ none) → only b r ≡ r
 only-kept true r failed = refl
 only-kept false r failed = sym (failed refl)
 
@@ -31,7 +35,7 @@ module _ (width : Width) (largest : ℕ) where
   read-in-row l from w e = ap (λ (b : Bool). only b (readAt width l (from + numberOf largest w))) e
 
   -- where in the row stands what f gives of each bearable queue, it says of a queue what f gives of it
-  pub row-found : (D : ℕ) (f : Queue → Option ℕ) (from : ℕ) (l : List ℕ) →
+  row-found : (D : ℕ) (f : Queue → Option ℕ) (from : ℕ) (l : List ℕ) →
       Row width (λ i. f (queueWith largest D i)) from (queueCount largest D) l → (w : Queue) → length w ≡ D →
       valueInRow width largest l from w ≡ only (bearable largest w) (f w)
   row-found D f from l row w long = go (bearable largest w) refl
@@ -43,7 +47,24 @@ module _ (width : Width) (largest : ℕ) where
       go false e = none-in-row l from w e
 
   -- that is all that it says, where f gives none of a queue that is not bearable
-  pub row-says : (D : ℕ) (f : Queue → Option ℕ) (from : ℕ) (l : List ℕ) →
-      Row width (λ i. f (queueWith largest D i)) from (queueCount largest D) l →
-      ((w : Queue) → bearable largest w ≡ false → f w ≡ none) → (w : Queue) → length w ≡ D → valueInRow width largest l from w ≡ f w
-  row-says D f from l row strict w long = row-found D f from l row w long ∙ only-kept (bearable largest w) (f w) (strict w)
+  pub row-says : (D : ℕ) (f : Queue → Option ℕ) (from : ℕ) (l : List ℕ) → RowOf width largest D f from l → (w : Queue) → length w ≡ D →
+      valueInRow width largest l from w ≡ f w
+  row-says D f from l row w long = row-found D f from l (row .stands) w long ∙ only-kept (bearable largest w) (f w) (row .strict w)
+
+  -- and after a slot at a speed of at least w(1), by the positions before the last, what g gives of the queue after the slot
+  pub after-says : (D : ℕ) (g : Queue → Option ℕ) (from : ℕ) (l : List ℕ) → RowAfter width largest D g from l → (w : Queue) (speed : ℕ) →
+      1 ≤ D → length w ≡ D → NeverFalls w → total w 1 ≤ speed → valueInRow width largest l from (queueIn (pred D) (run w speed)) ≡ g (run w speed)
+  after-says D g from l row w speed low long never fast =
+      row-found (pred D) (λ v. g (kept v)) from l (row .stands) before shorter ∙
+      ap (λ (v : Queue). only (bearable largest before) (g v)) (sym (run-kept w speed (pred D) whole fast)) ∙
+      only-kept (bearable largest before) (g (run w speed))
+      (λ e. row .strict (run w speed) (run-never-falls w speed never) (run-bearable largest w speed (pred D) whole fast ∙ e))
+    where
+      before : Queue
+      before = queueIn (pred D) (run w speed)
+
+      whole : length w ≡ suc (pred D)
+      whole = omega arith
+
+      shorter : length before ≡ pred D
+      shorter = length-in (pred D) (run w speed) (omega (arith, length-run w speed))

@@ -10,13 +10,18 @@ use native.Mathlib.Omega.{arith}
 use borrow.Author.Tests.{lt-ltb, le-ltb, ne-eqb, eqb-true, eqb-false}
 use lib.Dec.{T, eqb, ltb}
 use Rattle.process.specs.Recursion.{plus, times}
-use Rattle.process.proofs.Value.{plus-none}
+use Rattle.process.proofs.Value.{UptoOr, plus-none}
 use Rattle.value.specs.Width.{Width, decode, Below, missing, lessThan}
 
 -- a value of which the test says so is none
 pub missing-none : (r : Option ℕ) → missing r ≡ true → r ≡ none
 missing-none none e = refl
 missing-none (some v) e = absurd (subst T (sym e) tt)
+
+-- a value within a bound is below what is above the bound
+pub below-limit : (r : Option ℕ) {most limit : ℕ} → UptoOr (Unit {0}) r most → most < limit → Below limit r
+below-limit none t h = tt
+below-limit (some v) t h = omega arith
 
 module _ (W : Width) where
   -- the test against the code tells whether there is none

@@ -10,9 +10,8 @@ use Rattle.model.specs.Counted.{counted}
 use Rattle.value.specs.Narrow.{width, valueOf}
 use Rattle.value.specs.Width.{Below}
 use Rattle.value.proofs.Decoding.{missing-none}
-use Rattle.rows.specs.Rows.{valueInRow}
+use Rattle.rows.specs.Rows.{valueInRow, afterWith}
 use Rattle.ahead.specs.Pass.{sumLeft, stepped}
-use Rattle.ahead.specs.Sums.{afterWith}
 use Rattle.ahead.proofs.Adding.{sum-begun, sum-more, sum-none}
 use Rattle.ahead.proofs.Passing.{in-range, columns-room, weight-read, number-low}
 use Rattle.ahead.proofs.sums.sum_of.Statement.{statement}

@@ -1,0 +1,99 @@
+-- The first pass over a row of any function from queues to values: its sums are those of the function, a bound of the function bounds them, and
+-- where there is an entry they make a row after a slot. Who calls the pass says which function it is.
+use Prim.Native.Nat.{ℕ, pred, _+_, _*_, _≤_, _<_}
+use mathlib.Core.Path.{_≡_, sym, ap, _∙_, subst}
+use mathlib.Core.Bool.{false}
+use mathlib.Core.List.{List}
+use mathlib.Core.Option.{Option, none}
+use native.Mathlib.Nat.{mul-comm, mul-le-mul-left}
+use native.Mathlib.Omega.{arith}
+use lib.Dec.{T}
+use lib.ListN.{length}
+use Rattle.process.specs.Sums.{sum}
+use Rattle.process.proofs.Sums as sums
+use Rattle.process.proofs.Value.{UptoOr, uptoOr-le, sum-upto}
+use Rattle.model.specs.Counted.{Counted, weightAt, sizeAt, deadlineAt, W}
+use Rattle.model.specs.Queue.{Queue, NeverFalls, bearable, queueCount}
+use Rattle.model.specs.Refusal.{fieldsRefusal}
+use Rattle.model.proofs.Queues.{length-arrive, listed-bearable}
+use Rattle.model.proofs.Refusal.{W-is}
+use Rattle.model.proofs.Tests.{same-test}
+use Rattle.queues.specs.Blocks.{queueWith}
+use Rattle.queues.proofs.Slots.{length-kept, arrive-not-bearable}
+use Rattle.value.specs.Fills.{Fills}
+use Rattle.value.specs.Width.{Width, readAt, Below}
+use Rattle.value.proofs.Decoding.{below-limit}
+use Rattle.value.proofs.Filling.{fills-same}
+use Rattle.rows.specs.Rows.{valueInRow, afterWith, Row, RowOf, RowAfter}
+use Rattle.rows.specs.Sizes.{Measured}
+use Rattle.rows.specs.declared.sizes.Sizes.{Sizes}
+use Rattle.rows.proofs.Rows.{row-says}
+use Rattle.ahead.specs.Lanes.{EntryTable}
+use Rattle.ahead.specs.Pass.{Given, sumLeft}
+use Rattle.ahead.specs.Sums.{joined, sumTo}
+use Rattle.ahead.proofs.Adding.{sum-same, sum-none}
+
+module _ (s : Counted) (f : Queue → Option ℕ) where
+  -- where the function is nowhere above a bound, no sum over some first entries is above the bound times W
+  pub sums-upto : (most : ℕ) → ((w : Queue) → UptoOr (Unit {0}) (f w) most) → (v : Queue) (n : ℕ) → n ≤ s .jobCount →
+      UptoOr (Unit {0}) (sumTo s f v n) (most * W s)
+  unfolding sumTo
+  sums-upto most upto v n h =
+      uptoOr-le (Unit {0}) (sumTo s f v n)
+      (sum-upto (Unit {0}) (weightAt s) (λ j. f (joined s v j)) n (λ j. most) (λ j l. upto (joined s v j))) whole
+    where
+      whole : sum (λ j. weightAt s j * most) n ≤ most * W s
+      whole =
+          omega (
+            arith,
+            sums.sum-same n (λ j l. mul-comm (weightAt s j) most) ∙ sums.sum-times most (weightAt s) n,
+            mul-le-mul-left most (sums.sum-more (weightAt s) n (s .jobCount) h),
+            ap (λ (x : ℕ). most * x) (W-is s),
+          )
+
+  -- where it gives none of each queue that is not bearable, so do its sums: no arrival makes such a queue bearable
+  pub sums-strict : (M : ℕ) → 1 ≤ s .jobCount → ((w : Queue) → bearable M w ≡ false → f w ≡ none) → (v : Queue) → NeverFalls v →
+      bearable M v ≡ false → sumTo s f v (s .jobCount) ≡ none
+  sums-strict M jobs strict v rises e = sum-none s f v (s .jobCount) 0 jobs (strict (joined s v 0) still)
+    where
+      still : bearable M (joined s v 0) ≡ false
+      still =
+          same-test (bearable M (joined s v 0)) false
+          (λ t. subst T e (arrive-not-bearable M v (sizeAt s 0) (deadlineAt s 0) rises t)) (λ x. absurd x)
+
+module _ (width : Width) (s : Counted) {sizes : Sizes} (m : Measured sizes) (f : Queue → Option ℕ) {next : ℕ} {values : List ℕ}
+    (row : RowOf width (sizes .largest) (sizes .bound) f next values) where
+  after-long : (i : ℕ) → i < sizes .after → length (afterWith (sizes .largest) (sizes .bound) i) ≡ sizes .bound
+  after-long i h =
+      length-kept (queueWith (sizes .largest) (pred (sizes .bound)) i) ∙
+      omega (arith, listed-bearable (sizes .largest) (pred (sizes .bound)) i (omega (arith, m .after-is)) .0, m .bound-low)
+
+  -- what the pass adds up is what the function gives
+  sums-told : (i n : ℕ) → i < sizes .after → sumLeft width s sizes next values i n ≡ sumTo s f (afterWith (sizes .largest) (sizes .bound) i) n
+  sums-told i n h =
+      let v = afterWith (sizes .largest) (sizes .bound) i in
+      sum-same s (valueInRow width (sizes .largest) values next) f v n
+      (λ j. row-says width (sizes .largest) (sizes .bound) f next values row (joined s v j)
+      (length-arrive v (sizeAt s j) (deadlineAt s j) ∙ after-long i h))
+
+  -- what it is given, where the function's bound times W is below the limit of a value
+  pub given-for : {lanes : List ℕ} (most : ℕ) → fieldsRefusal s ≡ 0 → EntryTable (sizes .largest) (sizes .bound) s lanes →
+      ((w : Queue) → UptoOr (Unit {0}) (f w) most) → most * W s < width .limit → Given width s sizes lanes next values
+  given-for most fields table upto low =
+      record {
+        fields = fields;
+        measured = m;
+        table = table;
+        room = subst (λ (n : ℕ). (next + n) * width .places ≤ length values) (sym (m .queues-is)) (row .stands .room);
+        fits = λ i n h k.
+            subst (λ (r : Option ℕ). Below (width .limit) r) (sym (sums-told i n h))
+            (below-limit (sumTo s f (afterWith (sizes .largest) (sizes .bound) i) n)
+            (sums-upto s f most upto (afterWith (sizes .largest) (sizes .bound) i) n k) low);
+      }
+
+  -- what it leaves: the sums of the function
+  pub left-for : {ahead₀ ahead : List ℕ} →
+      Fills (width .places) (readAt width) (λ i. sumLeft width s sizes next values i (s .jobCount)) 0 (sizes .after) ahead₀ ahead →
+      Fills (width .places) (readAt width) (λ i. sumTo s f (afterWith (sizes .largest) (sizes .bound) i) (s .jobCount)) 0 (sizes .after)
+      ahead₀ ahead
+  left-for = fills-same (width .places) (readAt width) (λ i h. sums-told i (s .jobCount) h)
