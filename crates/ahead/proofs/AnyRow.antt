@@ -13,7 +13,7 @@ use Rattle.process.specs.Sums.{sum}
 use Rattle.process.proofs.Sums as sums
 use Rattle.process.proofs.Value.{UptoOr, uptoOr-le, sum-upto}
 use Rattle.model.specs.Counted.{Counted, weightAt, sizeAt, deadlineAt, W}
-use Rattle.model.specs.Queue.{Queue, NeverFalls, bearable, queueCount}
+use Rattle.model.specs.Queue.{Queue, NeverFalls, bearable}
 use Rattle.model.specs.Refusal.{fieldsRefusal}
 use Rattle.model.proofs.Queues.{length-arrive, listed-bearable}
 use Rattle.model.proofs.Refusal.{W-is}
@@ -24,7 +24,7 @@ use Rattle.value.specs.Fills.{Fills}
 use Rattle.value.specs.Width.{Width, readAt, Below}
 use Rattle.value.proofs.Decoding.{below-limit}
 use Rattle.value.proofs.Filling.{fills-same}
-use Rattle.rows.specs.Rows.{valueInRow, afterWith, Row, RowOf, RowAfter}
+use Rattle.rows.specs.Rows.{valueInRow, afterWith, RowOf}
 use Rattle.rows.specs.Sizes.{Measured}
 use Rattle.rows.specs.declared.sizes.Sizes.{Sizes}
 use Rattle.rows.proofs.Rows.{row-says}

@@ -8,12 +8,11 @@ use mathlib.Core.Logic.{_⊎_, inl, inr}
 use native.Mathlib.Nat.{zero-mul, add-zero, suc-mul, not-suc-le-zero, eq-or-lt-of-le, le-refl}
 use native.Mathlib.Numerals.{add-one}
 use native.Mathlib.Omega.{arith}
-use borrow.Author.Tests.{ltb-true, ltb-false}
-use lib.Dec.{T, leb, ltb}
+use lib.Dec.{T}
 use lib.ListN.{length}
 use Rattle.model.specs.Queue.{Queue, total, NeverFalls, NoLonger, bearable, queueCount, numberOf, arrive}
-use Rattle.model.proofs.Longer.{arrive-never-falls, bearable-carries}
-use Rattle.model.proofs.Queues.{total-past, length-arrive, total-arrive, bearable-at, bearable-all, listed-bearable}
+use Rattle.model.proofs.Longer.{no-longer-by, arrive-never-falls, bearable-carries}
+use Rattle.model.proofs.Queues.{length-arrive, total-arrive, bearable-at, bearable-all, listed-bearable}
 use Rattle.model.proofs.Tests.{same-test, holds-true}
 use Rattle.queues.specs.Blocks.{queueWith, firstOf, startOf, lowestOf, Alike, Shifted, risen}
 use Rattle.queues.specs.Slot.{kept}
@@ -73,19 +72,18 @@ shifted-arrive d k v w c dl low a =
 
 -- the one is nowhere longer
 shifted-no-longer : (d k : ℕ) (v w : Queue) → Shifted d k v w → NoLonger v w
-shifted-no-longer d k v w a u = go (ltb u d) refl
+shifted-no-longer d k v w a = no-longer-by v w (a .long ∙ sym (a .long-too)) (λ i l. each i (eq-or-lt-of-le (inside i l)))
   where
-    past : (suc d ≡ u) ⊎ (suc d < u) → total v u ≤ total w u
-    past (inl e) = omega (arith, ap (total v) e, ap (total w) e, a .last-is)
-    past (inr l) = omega (arith, total-past v u (omega (arith, a .long)))
+    inside : (i : ℕ) → i < length v → i ≤ d
+    inside i l = omega (arith, a .long)
 
-    from : (d ≡ u) ⊎ (d < u) → total v u ≤ total w u
-    from (inl e) = omega (arith, ap (total v) e, ap (total w) e, a .before-is)
-    from (inr l) = past (eq-or-lt-of-le l)
+    before : (i : ℕ) → (suc i ≡ d) ⊎ (suc i < d) → total v (suc i) ≤ total w (suc i)
+    before i (inl e) = omega (arith, ap (total v) e, ap (total w) e, a .before-is)
+    before i (inr l) = omega (arith, a .same (suc i) l)
 
-    go : (b : Bool) → ltb u d ≡ b → total v u ≤ total w u
-    go true q = omega (arith, a .same u (ltb-true u d q))
-    go false q = from (eq-or-lt-of-le (ltb-false u d q))
+    each : (i : ℕ) → (i ≡ d) ⊎ (i < d) → total v (suc i) ≤ total w (suc i)
+    each i (inl e) = omega (arith, ap (λ (j : ℕ). total v (suc j)) e, ap (λ (j : ℕ). total w (suc j)) e, a .last-is)
+    each i (inr l) = before i (eq-or-lt-of-le l)
 
 -- where the one is bearable, so is the other up to the bounds at its last two positions
 shifted-bearable : (M n k : ℕ) (v w : Queue) → Shifted (suc n) k v w → T (bearable M v) → total w (suc n) ≤ suc n * M →

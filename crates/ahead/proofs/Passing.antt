@@ -1,17 +1,16 @@
 -- What the table and the row say so many steps from the first queue of a block on: the proofs of src/sums.rt and src/pass.rt stand on these
 -- laws, which are over any width of a value.
 use Prim.Native.Nat.{ℕ, suc, pred, _+_, _-_, _*_, _≤_, _<_}
-use mathlib.Core.Path.{_≡_, refl, sym, ap, _∙_, subst}
+use mathlib.Core.Path.{_≡_, sym, ap, _∙_, subst}
 use mathlib.Core.Bool.{Bool, true, false, cond}
 use mathlib.Core.List.{List}
 use mathlib.Core.Option.{Option, none}
 use native.Mathlib.Nat.{add-zero, mul-le-mul}
-use native.Mathlib.Numerals.{add-one}
 use native.Mathlib.Omega.{arith}
 use lib.Dec.{T, leb}
 use lib.ListN.{length, getD}
 use Rattle.model.specs.Counted.{Counted, weightAt, sizeAt, deadlineAt}
-use Rattle.model.specs.Queue.{Queue, total, bearable, queueCount, numberOf, arrive}
+use Rattle.model.specs.Queue.{Queue, total, bearable, queueCount, numberOf}
 use Rattle.model.proofs.Queues.{length-arrive, listed-bearable, number-below}
 use Rattle.model.proofs.Refusal.{Ranged, ranged}
 use Rattle.model.proofs.Tests.{holds-true}
@@ -30,9 +29,9 @@ use Rattle.rows.proofs.Blocks.{block-none, block-more, blocks-none, blocks-more
 use Rattle.rows.proofs.Measures.{most-total}
 use Rattle.rows.proofs.Rows.{none-in-row, read-in-row}
 use Rattle.rows.proofs.Tables.{line-within}
-use Rattle.ahead.specs.Lanes.{firstAfter, liftOf, stepsOf, stepsTo, laneOf, Lane}
+use Rattle.ahead.specs.Lanes.{firstAfter, liftOf, stepsTo, laneOf, Lane}
 use Rattle.ahead.specs.Pass.{Given, Within, sumLeft, stepped}
-use Rattle.ahead.specs.Sums.{joined, sumTo}
+use Rattle.ahead.specs.Sums.{joined}
 use Rattle.ahead.proofs.Adding.{sum-none, steps-each, steps-past}
 use Rattle.ahead.proofs.Firsts.{first-of, lowest-upto, most-fewer}
 use Rattle.ahead.proofs.Lanes.{lane-says}

@@ -1,6 +1,6 @@
 -- The second pass over a row of any function from the queues after a slot: what a speed costs and the least are by that function, and a bound
 -- of it bounds every cost. Who calls the pass says which function it is.
-use Prim.Native.Nat.{ℕ, zero, suc, pred, _+_, _*_, _≤_, _<_}
+use Prim.Native.Nat.{ℕ, _+_, _*_, _≤_, _<_}
 use mathlib.Core.Path.{_≡_, refl, sym, ap, _∙_, subst}
 use mathlib.Core.Bool.{Bool, true, false}
 use mathlib.Core.List.{List}
@@ -10,7 +10,7 @@ use native.Mathlib.Omega.{arith}
 use borrow.Author.Tests.{leb-true}
 use lib.Dec.{T, leb}
 use lib.ListN.{length}
-use Rattle.process.specs.Recursion.{plus, times, only, Choice, better, worth}
+use Rattle.process.specs.Recursion.{plus, times, only, worth}
 use Rattle.process.proofs.Value.{UptoOr, plus-upto}
 use Rattle.model.specs.Counted.{Counted, speedAt, energyAt}
 use Rattle.model.specs.Queue.{Queue, total, bearable, run}
@@ -25,7 +25,7 @@ use Rattle.rows.specs.Rows.{RowAfter}
 use Rattle.rows.specs.Sizes.{Measured}
 use Rattle.rows.specs.declared.sizes.Sizes.{Sizes}
 use Rattle.rows.proofs.Rows.{after-says}
-use Rattle.choose.specs.Choice.{costBy, leastTo, leastBy, aheadIn, costAt, leastIn, byteOf}
+use Rattle.choose.specs.Choice.{costBy, leastBy, costAt, leastIn, byteOf}
 use Rattle.choose.specs.Lanes.{SpeedTable}
 use Rattle.choose.specs.Pass.{Given, LeftAll}
 use Rattle.choose.proofs.Choices.{least-same}
@@ -41,7 +41,7 @@ only-upto true r most t = t
 only-upto false r most t = tt
 
 -- where the function is nowhere above a bound, no cost is above the bound and the scaled energy
-pub cost-upto : (g : Queue → Option ℕ) (most : ℕ) → ((v : Queue) → UptoOr (Unit {0}) (g v) most) → (scale : ℕ) (w : Queue) (speed energy : ℕ) →
+cost-upto : (g : Queue → Option ℕ) (most : ℕ) → ((v : Queue) → UptoOr (Unit {0}) (g v) most) → (scale : ℕ) (w : Queue) (speed energy : ℕ) →
     UptoOr (Unit {0}) (costBy g (some scale) w speed energy) (most + energy * scale)
 unfolding costBy
 cost-upto g most upto scale w speed energy =

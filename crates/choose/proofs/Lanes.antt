@@ -1,19 +1,19 @@
 -- Laws of the lanes of the speeds (specs/Lanes.antt). Where a speed leads on, every faster one does, and in every queue that is nowhere
 -- longer; so a speed that does not lead on from the first queue of a block does not from any. And along a block the queue after a slot is
 -- found from the first one.
-use Prim.Native.Nat.{ℕ, zero, suc, pred, min, max, _+_, _-_, _*_, _≤_, _<_, zero-le}
+use Prim.Native.Nat.{ℕ, zero, suc, min, max, _+_, _-_, _*_, _≤_, _<_}
 use mathlib.Core.Path.{_≡_, refl, sym, ap, _∙_, subst}
-use mathlib.Core.Bool.{Bool, true, false, cond, _&&_}
+use mathlib.Core.Bool.{Bool, false, cond, _&&_}
 use mathlib.Core.List.{List}
 use mathlib.Core.Logic.{_⊎_, inl, inr}
 use native.Mathlib.Nat.{not-suc-le-zero, eq-or-lt-of-le, le-refl}
 use native.Mathlib.Omega.{arith}
-use borrow.Author.Tests.{ltb-true, ltb-false, le-leb, lt-leb}
-use lib.Dec.{T, leb, ltb, leb→le, le→leb}
+use borrow.Author.Tests.{le-leb, lt-leb}
+use lib.Dec.{T, leb, leb→le, le→leb}
 use lib.ListN.{length}
 use Rattle.model.specs.Queue.{Queue, total, NeverFalls, NoLonger, queueIn, placesOf, bearable, numberOf, run}
-use Rattle.model.proofs.Longer.{run-never-falls, bearable-carries}
-use Rattle.model.proofs.Queues.{length-run, total-run, total-past, length-in, bearable-at}
+use Rattle.model.proofs.Longer.{no-longer-by, run-never-falls, bearable-carries}
+use Rattle.model.proofs.Queues.{length-run, total-run, length-in, bearable-at}
 use Rattle.model.proofs.Tests.{and-left, and-right, and-both, same-test, holds-true}
 use Rattle.queues.specs.Blocks.{Alike}
 use Rattle.queues.proofs.Blocks.{number-last, bearable-with}
@@ -55,23 +55,15 @@ after-never-falls d w s e f u h =
 -- after a faster slot of a queue that is nowhere longer it is nowhere longer
 after-no-longer : (d : ℕ) (v w : Queue) (s s′ : ℕ) → length v ≡ suc d → length w ≡ suc d → NoLonger v w → s ≤ s′ →
     NoLonger (afterOf (suc d) v s′) (afterOf (suc d) w s)
-after-no-longer d v w s s′ e f n h zero = zero-le
-after-no-longer d v w s s′ e f n h (suc i) = go (ltb i d) refl
-  where
-    go : (b : Bool) → ltb i d ≡ b → total (afterOf (suc d) v s′) (suc i) ≤ total (afterOf (suc d) w s) (suc i)
-    go true q =
-        let l = ltb-true i d q in
-        omega (
-          arith,
-          total-after d v s′ (suc i) e (omega arith) l,
-          total-after d w s (suc i) f (omega arith) l,
-          n (suc (suc i)),
-        )
-    go false q =
-        omega (
-          arith,
-          total-past (afterOf (suc d) v s′) (suc i) (omega (arith, length-after d v s′ e, ltb-false i d q)),
-        )
+after-no-longer d v w s s′ e f n h =
+    no-longer-by (afterOf (suc d) v s′) (afterOf (suc d) w s) (length-after d v s′ e ∙ sym (length-after d w s f))
+    (λ i k. let l : suc i ≤ d = omega (arith, length-after d v s′ e) in
+    omega (
+      arith,
+      total-after d v s′ (suc i) e (omega arith) l,
+      total-after d w s (suc i) f (omega arith) l,
+      n (suc (suc i)),
+    ))
 
 -- a speed that leads on
 
@@ -83,7 +75,7 @@ module _ (M D : ℕ) (w : Queue) (s : ℕ) where
       let b = bearable M (afterOf D w s) in
       (leb→le (total w 1) s (and-left a b t), and-right a b t)
 
-  pub leads-both : total w 1 ≤ s → T (bearable M (afterOf D w s)) → T (leadsOn M D w s)
+  leads-both : total w 1 ≤ s → T (bearable M (afterOf D w s)) → T (leadsOn M D w s)
   leads-both h t = and-both (leb (total w 1) s) (bearable M (afterOf D w s)) (le→leb (total w 1) s h) t
 
   -- a speed below w(1) does not
@@ -109,15 +101,14 @@ leads-carries M (suc d) v w s s′ low e f never n h t =
 
 -- the first queue is nowhere longer than a later one
 alike-no-longer : (D : ℕ) (v w : Queue) → Alike D v w → total v D ≤ total w D → NoLonger v w
-alike-no-longer D v w a h u = go (ltb u D) refl
+alike-no-longer D v w a h = no-longer-by v w (a .long ∙ sym (a .long-too)) (λ i l. each i (eq-or-lt-of-le (inside i l)))
   where
-    behind : (D ≡ u) ⊎ (D < u) → total v u ≤ total w u
-    behind (inl q) = omega (arith, ap (total v) q, ap (total w) q)
-    behind (inr l) = omega (arith, total-past v u (omega (arith, a .long)))
+    inside : (i : ℕ) → i < length v → suc i ≤ D
+    inside i l = omega (arith, a .long)
 
-    go : (b : Bool) → ltb u D ≡ b → total v u ≤ total w u
-    go true q = omega (arith, a .same u (ltb-true u D q))
-    go false q = behind (eq-or-lt-of-le (ltb-false u D q))
+    each : (i : ℕ) → (suc i ≡ D) ⊎ (suc i < D) → total v (suc i) ≤ total w (suc i)
+    each i (inl q) = omega (arith, ap (total v) q, ap (total w) q)
+    each i (inr l) = omega (arith, a .same (suc i) l)
 
 -- a speed that does not lead on from the first queue does not from a later one
 pub leads-nowhere : (M D : ℕ) (v w : Queue) (s : ℕ) → 1 ≤ D → Alike D v w → T (bearable M v) → total v D ≤ total w D →

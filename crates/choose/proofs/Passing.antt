@@ -2,7 +2,7 @@
 -- laws, which are over any width of a value.
 use Prim.Native.Nat.{ℕ, suc, pred, max, _+_, _-_, _*_, _≤_, _<_}
 use mathlib.Core.Path.{_≡_, refl, sym, ap, _∙_, subst}
-use mathlib.Core.Bool.{Bool, true, false}
+use mathlib.Core.Bool.{false}
 use mathlib.Core.List.{List}
 use mathlib.Core.Logic.{_⊎_, inl, inr}
 use mathlib.Core.Option.{Option, none}
@@ -119,7 +119,7 @@ module _ {width : Width} {s : Counted} {sizes : Sizes} {scale : Option ℕ} {lan
 
     -- the place of the slowest speed is no more than there are speeds, and from it on every speed leads on from the first queue
 
-    pub leads-from : (j : ℕ) → slowestIn M D s first ≤ j → j < s .speedCount → T (leadsOn M D first (speedAt s j))
+    leads-from : (j : ℕ) → slowestIn M D s first ≤ j → j < s .speedCount → T (leadsOn M D first (speedAt s j))
     leads-from j low h =
         let k = slowestIn M D s first in
         let there = first-holds (λ i. leadsOn M D first (speedAt s i)) (s .speedCount) (omega arith) in

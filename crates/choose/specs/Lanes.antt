@@ -1,7 +1,7 @@
 -- The lanes of the speeds. Along a block of queues (queues/specs/Blocks.antt), which differ in their last total alone, the number of the
 -- queue after a slot at a speed stays the same while the last total is below the speed, and then rises with it. So it is worked out for
 -- the first queue of each block alone, once a plan: a table has it (rows/specs/Tables.antt).
-use Prim.Native.Nat.{ℕ, suc, pred, max, _+_, _*_, _-_, _≤_, _<_}
+use Prim.Native.Nat.{ℕ, pred, _+_, _*_, _-_, _≤_, _<_}
 use mathlib.Core.Path.{_≡_}
 use mathlib.Core.Bool.{Bool, false, cond, _&&_}
 use mathlib.Core.List.{List}

@@ -1,12 +1,11 @@
 -- What the functions of the second pass ask and leave, over any width of a value and whatever is ahead.
-use Prim.Native.Nat.{ℕ, pred, _+_, _*_, _≤_, _<_}
+use Prim.Native.Nat.{ℕ, _+_, _*_, _≤_, _<_}
 use mathlib.Core.Path.{_≡_}
 use mathlib.Core.List.{List}
 use mathlib.Core.Option.{Option}
 use lib.ListN.{length}
 use Rattle.process.specs.Recursion.{worth}
 use Rattle.model.specs.Counted.{Counted}
-use Rattle.model.specs.Queue.{queueCount}
 use Rattle.model.specs.Refusal.{fieldsRefusal}
 use Rattle.queues.specs.Blocks.{queueWith, lowestOf}
 use Rattle.value.specs.Fills.{Fills, FillsWhere, numberAt}

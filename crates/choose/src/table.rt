@@ -11,7 +11,7 @@ use rows::line_at;
 use rows::put_head;
 use rows::put_pair;
 ghost use mathlib.Core.Path.{_≡_};
-ghost use Prim.Native.Nat.{ℕ, pred, _+_, _≤_, _<_};
+ghost use Prim.Native.Nat.{ℕ, _+_, _≤_, _<_};
 ghost use lib.ListN.{length, getD};
 ghost use Rattle.model.specs.Counted.{counted, speedAt, energyAt};
 ghost use Rattle.model.specs.Queue.{queueIn};

@@ -21,7 +21,7 @@ later-more v f i (suc j) h l =
     (eq-or-lt-of-le h)
 
 -- past the end both totals are 0, so that the positions alone are to compare
-no-longer-by : (v w : Queue) → length v ≡ length w → ((i : ℕ) → i < length v → total v (suc i) ≤ total w (suc i)) → NoLonger v w
+pub no-longer-by : (v w : Queue) → length v ≡ length w → ((i : ℕ) → i < length v → total v (suc i) ≤ total w (suc i)) → NoLonger v w
 no-longer-by v w e all zero = zero-le
 no-longer-by v w e all (suc i) = go (ltb i (length v)) refl
   where

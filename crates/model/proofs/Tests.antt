@@ -244,7 +244,8 @@ getD-listed f zero i d h = absurd (not-suc-le-zero h)
 getD-listed f (suc n) zero d h = refl
 getD-listed f (suc n) (suc i) d h = getD-listed (λ j. f (suc j)) n i d (le-of-suc-le-suc h)
 
--- the first place at which a test holds: where it is below n the test holds there, and it is no later than any place at which it holds
+-- the first place at which a test holds: where it is below n the test holds there, it is n at most, and no later than any place at which
+-- the test holds
 
 last-holds : (test : ℕ → Bool) (n : ℕ) (b : Bool) → test n ≡ b → cond b n (suc n) < suc n → T (test (cond b n (suc n)))
 last-holds test n true e h = subst T (sym e) tt

@@ -2,8 +2,7 @@
 -- is above that of number 9. No bound stands in a loop's invariant: one induction over the recursion bounds its values (value-most), the
 -- passes carry any bound on (AnyRow.antt of ahead and of choose), and number 9 does the rest.
 use Prim.Native.Nat.{ℕ, suc, _+_, _*_, _^_, _≤_, _<_}
-use mathlib.Core.Path.{_≡_, sym, ap, _∙_}
-use mathlib.Core.Option.{Option}
+use mathlib.Core.Path.{sym, ap, _∙_}
 use native.Mathlib.Nat.{mul-le-mul, mul-le-mul-right, mul-assoc, pow-suc, pow-le-pow-right, le-trans, le-refl}
 use native.Mathlib.Omega.{arith}
 use Rattle.process.proofs.Value.{UptoOr}

@@ -1,17 +1,17 @@
 -- That the second pass, over what the first one leaves, works out what the recursion says: what each speed costs, the least over the speeds,
 -- and so the slot's rows. What is said of buffers is said over any width of a value.
-use Prim.Native.Nat.{ℕ, zero, suc, pred, _+_, _*_, _^_, _≤_, _<_}
+use Prim.Native.Nat.{ℕ, zero, suc, _+_, _*_, _^_, _≤_, _<_}
 use mathlib.Core.Path.{_≡_, refl, sym, ap, _∙_, subst}
 use mathlib.Core.List.{List}
 use mathlib.Core.Option.{Option, none, some}
 use native.Mathlib.Nat.{le-refl}
 use native.Mathlib.Omega.{arith}
-use lib.Dec.{T, leb}
+use lib.Dec.{leb}
 use Rattle.process.specs.Recursion.{plus, only, Choice, better, best, worth, priced}
 use Rattle.process.proofs.Equations.{best-none}
 use Rattle.model.specs.Counted.{Counted, speedAt, energyAt, weightAt, speedsOf, W, M}
 use Rattle.model.specs.Plan.{processOf, queueAt}
-use Rattle.model.specs.Queue.{Queue, total, bearable, run}
+use Rattle.model.specs.Queue.{Queue, total, run}
 use Rattle.model.specs.Refusal.{valueLimit, N}
 use Rattle.model.proofs.Counted.{energy-of-place}
 use Rattle.model.proofs.Queues.{listed-bearable}

@@ -67,15 +67,11 @@ pub record Ready (counts : List ℕ) (s : Counted) (sizes : Sizes) (left : ℕ) 
   pub prepared : Prepared counts s sizes
   pub in-plan : InPlan s left scale
 
--- how far a slot is planned that has so many left after it: the first n queues, in the row of the values that begins at place `this` and in
--- the row of the plan that begins at place `row`
-pub record PlannedTo (width : Width) (s : Counted) (left this row n : ℕ) (values₀ plan₀ values plan : List ℕ) : Type 0 where
-  pub values-filled : Fills (width .places) (readAt width) (λ i. valueWith s (suc left) (queueAt s i)) this n values₀ values
-  pub plan-filled : Fills 1 numberAt (λ i. byteOf (choiceWith s left (queueAt s i))) row n plan₀ plan
-
--- what a slot leaves: every queue
-abbrev pub Planned : Width → Counted → (left this row : ℕ) → (values₀ plan₀ values plan : List ℕ) → Type 0
-Planned width s left this row values₀ plan₀ values plan = PlannedTo width s left this row (N s) values₀ plan₀ values plan
+-- what a slot leaves that has so many left after it: every queue, in the row of the values that begins at place `this` and in the row of the
+-- plan that begins at place `row`
+pub record Planned (width : Width) (s : Counted) (left this row : ℕ) (values₀ plan₀ values plan : List ℕ) : Type 0 where
+  pub values-filled : Fills (width .places) (readAt width) (λ i. valueWith s (suc left) (queueAt s i)) this (N s) values₀ values
+  pub plan-filled : Fills 1 numberAt (λ i. byteOf (choiceWith s left (queueAt s i))) row (N s) plan₀ plan
 
 -- how far the lent memory is planned: the last k slots and the end row. What lies behind both tables is what was lent
 pub record PlannedFrom (width : Width) (s : Counted) (k : ℕ) (values₀ plan₀ values plan : List ℕ) : Type 0 where

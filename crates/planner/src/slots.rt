@@ -55,7 +55,8 @@ fn slot_with(queues: usize, horizon: u32, left: u32, scale: Value) -> Slot
     }
 }
 
-// The first pass over the next slot's values: what is ahead of every queue after the slot, from the buffer's first place on.
+// The first pass over the next slot's values: what is ahead of every queue after the slot, from the buffer's first place on. Of what
+// every pass is given (Ready) it looks at the counts no more: the lanes were worked out by them.
 fn fill_ahead(
     counts: &[u32; 2352],
     sheet: Sheet,
@@ -74,7 +75,7 @@ fn fill_ahead(
     ahead::fill(sheet, sizes, lanes, slot.next, values, ahead);
 }
 
-// The second pass over what is ahead: the slot's row of values and its row of the plan.
+// The second pass over what is ahead: the slot's row of values and its row of the plan. Nor does it look at the counts.
 fn fill_row(
     counts: &[u32; 2352],
     sheet: Sheet,
@@ -129,7 +130,8 @@ fn fill_slot(
     fill_row(counts, sheet, sizes, slot, ahead, values, plan, speed_lanes);
 }
 
-// Every slot, the last one first. There are at most 7,084 queues after a slot where there are at most 65,535 queues.
+// Every slot, the last one first. What is ahead stands in an array of its own, for at most 7,084 queues after a slot where there are at
+// most 65,535 queues; so a slot's row could be written over the next slot's.
 fn fill_slots(
     counts: &[u32; 2352],
     sheet: Sheet,
@@ -171,7 +173,8 @@ fn fill_slots(
     }
 }
 
-// The end row and every slot. The lanes have no slot in them, and are worked out once.
+// The end row and every slot. The lanes have no slot in them, and are worked out once: two columns of 32 places and a line for each of at
+// most 969 blocks, two columns of 9 places and a line for each of at most 7,084.
 pub fn fill(counts: &[u32; 2352], sheet: Sheet, sizes: Sizes, values: &mut [u64], plan: &mut [u8])
     requires { ⌜ Prepared (now counts) (counted sheet) sizes × (planNeeded (counted sheet) ≤ length (now plan)) ×
         (valuesNeeded (counted sheet) * width .places ≤ length (now values)) ⌝ }

@@ -2,19 +2,19 @@
 -- together; and that the blocks have all the queues, each at the first one's number and as much further as its last total is higher.
 use Prim.Native.Nat.{ℕ, zero, suc, pred, _+_, _-_, _*_, _≤_, _<_, zero-le}
 use mathlib.Core.Path.{_≡_, refl, sym, ap, _∙_, subst}
-use mathlib.Core.List.{List, [], _∷_, _++_}
-use mathlib.Core.Logic.{_⊎_, inl, inr, ⊎-elim}
-use native.Mathlib.Nat.{zero-mul, add-zero, add-suc, suc-mul, mul-suc, not-suc-le-zero, eq-or-lt-of-le, le-refl, zero-lt-suc}
+use mathlib.Core.List.{[], _∷_, _++_}
+use mathlib.Core.Logic.{_⊎_, inl, inr}
+use native.Mathlib.Nat.{zero-mul, add-zero, add-suc, suc-mul, not-suc-le-zero, eq-or-lt-of-le, le-refl, zero-lt-suc}
 use native.Mathlib.Numerals.{add-one}
 use native.Mathlib.Omega.{arith}
 use lib.Dec.{T}
-use lib.ListN.{length, getD, length-append, List·getD-append}
+use lib.ListN.{length, length-append, List·getD-append}
 use lib.Seq.{take-all, take-append-seam, getD-append-seam}
 use Rattle.process.specs.Sums.{sum}
 use Rattle.process.proofs.Sums.{sum-same}
-use Rattle.model.specs.Queue.{Queue, total, queueIn, bearable, bearableQueues, queueCount, numberOf, continuationCount}
-use Rattle.model.proofs.Queues.{length-in, bearable-at, bearable-all, bearable-upto, listed-bearable, number-below, number-place, number-of-place, queue-count}
-use Rattle.queues.specs.Blocks.{queueWith, blockOf, lastOf, firstOf, startOf, lowestOf, numberIn, InBlock, Alike, Shifted, risen}
+use Rattle.model.specs.Queue.{Queue, total, queueIn, bearable, queueCount, numberOf, continuationCount}
+use Rattle.model.proofs.Queues.{length-in, bearable-at, bearable-all, listed-bearable, number-below, number-place, number-of-place, queue-count}
+use Rattle.queues.specs.Blocks.{queueWith, blockOf, lastOf, firstOf, lowestOf, numberIn, InBlock, Alike, Shifted, risen}
 use Rattle.queues.specs.Order.{earlierAt}
 use Rattle.queues.specs.Slot.{kept}
 use Rattle.queues.proofs.Numbering.{number-sum}
@@ -164,7 +164,7 @@ risen-upto r (suc k) = omega (arith, risen-upto r k, suc-mul k r)
 -- bearable in a block
 
 -- what stands before the last total of a bearable queue is one
-pub before-last : (M d : ℕ) (w : Queue) → length w ≡ suc d → T (bearable M w) → T (bearable M (queueIn d w))
+before-last : (M d : ℕ) (w : Queue) → length w ≡ suc d → T (bearable M w) → T (bearable M (queueIn d w))
 before-last M d w long t =
     bearable-all M (queueIn d w)
     (λ i h. let l : i < d = omega (arith, length-in d w (omega arith)) in

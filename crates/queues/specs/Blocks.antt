@@ -1,7 +1,7 @@
 -- Blocks of queues. A block has the queues of d positions that differ in their last total alone. In dictionary order they follow each other,
 -- and the last total rises by one from each to the next; so do their numbers, which is why a planner needs one number for a block. A
 -- block is told by the number of what stands before the last total, a queue of one position fewer.
-use Prim.Native.Nat.{ℕ, suc, pred, _+_, _*_, _-_, _≤_, _<_}
+use Prim.Native.Nat.{ℕ, suc, pred, _+_, _-_, _<_}
 use mathlib.Core.Path.{_≡_}
 use mathlib.Core.List.{[]}
 use lib.ListN.{length, getD}

@@ -1,5 +1,5 @@
 -- What is worked out once for a sheet, and what the passes over its rows know of it.
-use Prim.Native.Nat.{ℕ, pred, _≤_}
+use Prim.Native.Nat.{pred, _≤_}
 use mathlib.Core.Path.{_≡_}
 use Rattle.model.specs.Counted.{Counted, M}
 use Rattle.model.specs.Queue.{queueCount}

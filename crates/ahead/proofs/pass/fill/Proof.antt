@@ -1,5 +1,5 @@
 -- `fill` meets its contract. The loop's invariant: what is ahead of the queues of the blocks passed is filled.
-use Prim.Native.Nat.{ℕ, pred, _-_, _≤_}
+use Prim.Native.Nat.{pred, _-_, _≤_}
 use native.Mathlib.Nat.{le-refl}
 use native.Mathlib.Omega.{arith}
 use Rattle.model.specs.Counted.{counted}

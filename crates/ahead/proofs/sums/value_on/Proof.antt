@@ -1,6 +1,6 @@
 -- `value_on` meets its contract: the lane tells the number of the queue with the arrival, and the row has its value there.
-use Prim.Native.Nat.{ℕ, suc, pred, _+_, _*_, _-_, _≤_, _<_}
-use mathlib.Core.Path.{_≡_, sym, ap, _∙_, subst}
+use Prim.Native.Nat.{ℕ, _+_, _*_, _-_, _≤_, _<_}
+use mathlib.Core.Path.{_≡_, sym, ap, _∙_}
 use native.Mathlib.Nat.{mul-le-mul}
 use native.Mathlib.Omega.{arith}
 use borrow.Author.Needs.{needs}
@@ -11,7 +11,7 @@ use Rattle.value.specs.Narrow.{width}
 use Rattle.value.specs.Width.{readAt}
 use Rattle.value.proofs.Filling.{fewer-fit}
 use Rattle.rows.proofs.Measures.{blocks-few}
-use Rattle.ahead.specs.Pass.{stepped, riseOf}
+use Rattle.ahead.specs.Pass.{stepped}
 use Rattle.rows.specs.Rows.{afterWith}
 use Rattle.ahead.specs.Sums.{joined}
 use Rattle.ahead.proofs.Passing.{in-range, columns-room, most-before-small, lift-read, lift-small, line-room, line-lane, number-told, number-joined, value-joined}

@@ -1,5 +1,5 @@
 -- `fill_lines` meets its contract. The loop's invariant: the lines of the blocks passed stand there, and the columns are as they were.
-use Prim.Native.Nat.{ℕ, _+_, _-_, _≤_, _<_}
+use Prim.Native.Nat.{ℕ, _-_, _≤_, _<_}
 use mathlib.Core.Path.{_≡_, refl, _∙_, subst}
 use native.Mathlib.Omega.{arith}
 use lib.ListN.{length, getD}

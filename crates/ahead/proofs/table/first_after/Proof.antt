@@ -4,7 +4,7 @@ use mathlib.Core.Path.{sym, ap, _∙_, subst}
 use native.Mathlib.Omega.{arith}
 use borrow.Author.Needs.{needs}
 use Rattle.model.specs.Queue.{placesOf, queueCount}
-use Rattle.queues.specs.Blocks.{queueWith, firstOf}
+use Rattle.queues.specs.Blocks.{firstOf}
 use Rattle.queues.specs.Order.{Ranges}
 use Rattle.queues.specs.Slot.{kept}
 use Rattle.rows.proofs.Measures.{ranges-fewer, one-fewer}

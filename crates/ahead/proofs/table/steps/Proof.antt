@@ -1,10 +1,9 @@
 -- `steps` meets its contract. The loop's invariant: the least so far is that over the entries passed.
-use Prim.Native.Nat.{ℕ, suc, pred, _+_, _*_, _-_, _≤_}
-use mathlib.Core.Path.{_≡_, refl, sym, ap, _∙_, subst}
+use Prim.Native.Nat.{pred, _*_, _-_, _≤_}
+use mathlib.Core.Path.{_≡_, sym, ap, _∙_, subst}
 use native.Mathlib.Nat.{le-refl, mul-le-mul-right}
-use native.Mathlib.Numerals.{add-one}
 use native.Mathlib.Omega.{arith}
-use lib.ListN.{length, getD}
+use lib.ListN.{length}
 use Rattle.model.specs.Counted.{counted}
 use Rattle.model.specs.Queue.{total, queueIn, arrive}
 use Rattle.model.specs.declared.Job.{Job}
@@ -13,7 +12,6 @@ use Rattle.queues.proofs.Places.{total-in}
 use Rattle.sheets.proofs.Places.{job-counts}
 use Rattle.rows.proofs.Measures.{most-total}
 use Rattle.ahead.specs.Lanes.{stepsOf, stepsTo}
-use Rattle.ahead.specs.Sums.{joined}
 use Rattle.ahead.proofs.Adding.{steps-begun, steps-more}
 use Rattle.ahead.proofs.Firsts.{joined-in, most-fewer}
 use Rattle.ahead.proofs.table.steps.Statement.{statement}

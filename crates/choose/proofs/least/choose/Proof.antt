@@ -1,8 +1,7 @@
 -- `choose` meets its contract. The loop's invariant: the least so far is the least over the speeds passed, and those before the first that
 -- leads on cost none.
 use Prim.Native.Nat.{ℕ, _+_, _-_, _≤_, _<_}
-use mathlib.Core.Path.{_≡_, sym, ap, _∙_, subst}
-use mathlib.Core.Option.{Option}
+use mathlib.Core.Path.{_≡_, ap, _∙_}
 use native.Mathlib.Omega.{arith}
 use lib.ListN.{length, getD}
 use Rattle.model.specs.Counted.{counted, speedAt}

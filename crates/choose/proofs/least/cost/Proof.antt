@@ -1,5 +1,5 @@
 -- `cost` meets its contract: none past the end of the lane, else what the buffer has where the lane leads, and the scaled energy.
-use Prim.Native.Nat.{ℕ, suc, pred, max, _+_, _-_, _*_, _≤_, _<_}
+use Prim.Native.Nat.{ℕ, pred, max, _+_, _-_, _*_, _≤_, _<_}
 use mathlib.Core.Path.{_≡_, sym, ap, _∙_, subst}
 use mathlib.Core.Option.{Option}
 use native.Mathlib.Omega.{arith}

@@ -1,6 +1,5 @@
 -- `fill` meets its contract. The loop's invariant: the queues of the blocks passed are filled.
-use Prim.Native.Nat.{ℕ, _-_, _≤_}
-use mathlib.Core.Path.{_≡_}
+use Prim.Native.Nat.{_-_, _≤_}
 use native.Mathlib.Nat.{le-refl}
 use native.Mathlib.Omega.{arith}
 use Rattle.model.specs.Counted.{counted}

@@ -1,10 +1,9 @@
 -- `fill_block` meets its contract. The loop's invariant: the queues of the block below the last total are filled.
-use Prim.Native.Nat.{ℕ, suc, pred, _+_, _-_, _*_, _≤_, _<_}
+use Prim.Native.Nat.{ℕ, suc, _+_, _-_, _*_, _≤_}
 use mathlib.Core.Path.{_≡_, ap, _∙_, subst}
 use native.Mathlib.Omega.{arith}
 use lib.ListN.{length, getD}
 use Rattle.model.specs.Counted.{counted}
-use Rattle.model.specs.Queue.{queueCount}
 use Rattle.queues.specs.Blocks.{lowestOf, InBlock}
 use Rattle.value.specs.Narrow.{width, valueOf}
 use Rattle.rows.proofs.Measures.{after-room, most-total}

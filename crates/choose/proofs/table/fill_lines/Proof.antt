@@ -1,10 +1,10 @@
 -- `fill_lines` meets its contract. The loop's invariant: the lines of the blocks passed stand there, and the columns are as they were.
-use Prim.Native.Nat.{ℕ, _+_, _-_, _≤_, _<_}
-use mathlib.Core.Path.{_≡_, refl, sym, ap, _∙_, subst}
+use Prim.Native.Nat.{ℕ, _-_, _≤_, _<_}
+use mathlib.Core.Path.{_≡_, refl, _∙_, subst}
 use native.Mathlib.Omega.{arith}
 use lib.ListN.{length, getD}
 use Rattle.model.specs.Counted.{counted}
-use Rattle.rows.specs.Tables.{lineAt, Lines}
+use Rattle.rows.specs.Tables.{Lines}
 use Rattle.rows.proofs.Tables.{lines-none, lines-more, line-behind, line-before}
 use Rattle.choose.specs.Lanes.{speedLine}
 use Rattle.choose.proofs.table.fill_lines.Statement.{statement}

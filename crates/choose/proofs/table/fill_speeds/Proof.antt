@@ -1,6 +1,6 @@
 -- `fill_speeds` meets its contract. The loop's invariant: the speeds passed and their energies stand in the columns.
 use Prim.Native.Nat.{ℕ, _-_, _≤_}
-use mathlib.Core.Path.{_≡_, refl, sym, ap, _∙_, subst}
+use mathlib.Core.Path.{_≡_, refl, ap, _∙_, subst}
 use native.Mathlib.Omega.{arith}
 use lib.ListN.{length}
 use Rattle.model.specs.Counted.{counted, speedAt, energyAt}

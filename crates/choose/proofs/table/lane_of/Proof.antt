@@ -1,5 +1,5 @@
 -- `lane_of` meets its contract: 0 where the speed does not lead on, else the number of the queue after the slot.
-use Prim.Native.Nat.{ℕ, _-_, _<_}
+use Prim.Native.Nat.{_-_}
 use mathlib.Core.Path.{_≡_, sym, ap, _∙_, subst}
 use mathlib.Core.Bool.{Bool, cond}
 use native.Mathlib.Omega.{arith}

@@ -1,8 +1,7 @@
 -- `put_lanes` meets its contract. The loop's invariant: the lanes of the speeds passed stand there, and nothing else has changed.
-use Prim.Native.Nat.{ℕ, _-_, _≤_}
-use mathlib.Core.Path.{_≡_, refl, sym, ap, _∙_, subst}
+use Prim.Native.Nat.{_-_, _≤_}
+use mathlib.Core.Path.{refl, sym, ap, _∙_}
 use native.Mathlib.Omega.{arith}
-use lib.ListN.{getD}
 use Rattle.model.specs.Counted.{counted, speedAt}
 use Rattle.model.specs.Queue.{queueIn}
 use Rattle.model.specs.declared.Speed.{Speed}

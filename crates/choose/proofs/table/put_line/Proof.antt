@@ -1,11 +1,11 @@
 -- `put_line` meets its contract: the head of the line, and behind it the lanes from the block's first queue on.
-use Prim.Native.Nat.{ℕ, pred, _+_, _≤_, _<_}
-use mathlib.Core.Path.{_≡_, refl, sym, ap, _∙_, subst}
+use Prim.Native.Nat.{pred, _+_, _≤_, _<_}
+use mathlib.Core.Path.{ap, _∙_}
 use native.Mathlib.Omega.{arith}
 use borrow.Author.Needs.{needs}
-use lib.ListN.{length, getD}
+use lib.ListN.{length}
 use Rattle.model.specs.Counted.{counted, speedAt}
-use Rattle.model.specs.Queue.{Queue, queueIn, queueCount, numberOf}
+use Rattle.model.specs.Queue.{Queue, queueCount, numberOf}
 use Rattle.model.proofs.Refusal.{Ranged, ranged}
 use Rattle.queues.specs.Blocks.{firstOf}
 use Rattle.queues.proofs.RoundTrip.{number-in-below}

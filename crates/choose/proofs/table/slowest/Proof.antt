@@ -1,10 +1,9 @@
 -- `slowest` meets its contract. The loop's invariant: of the speeds passed none leads on.
 use Prim.Native.Nat.{ℕ, _-_, _≤_}
-use mathlib.Core.Path.{_≡_, refl, sym, ap, _∙_, subst}
+use mathlib.Core.Path.{_≡_, refl, sym, ap, _∙_}
 use mathlib.Core.Bool.{Bool}
 use native.Mathlib.Omega.{arith}
-use lib.ListN.{getD}
-use Rattle.model.specs.Counted.{counted, speedAt, zeroSpeed}
+use Rattle.model.specs.Counted.{counted, speedAt}
 use Rattle.model.specs.Queue.{queueIn}
 use Rattle.model.specs.Tests.{firstPlace}
 use Rattle.model.specs.declared.Speed.{Speed}

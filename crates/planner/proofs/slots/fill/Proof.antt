@@ -1,6 +1,5 @@
 -- `fill` meets its contract: the tables of both passes have room for any accepted sheet, once the end row stands no slot is planned yet, and
 -- then every slot is.
-use Prim.Native.Nat.{suc, _≤_}
 use mathlib.Core.Path.{refl, sym}
 use native.Mathlib.Omega.{arith}
 use borrow.Author.Needs.{needs}

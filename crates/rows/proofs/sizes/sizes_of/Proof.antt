@@ -1,7 +1,7 @@
 -- `sizes_of` meets its contract: the largest speed is M, and the counts are those of its queues, and of the queues of one and of two
 -- positions fewer.
-use Prim.Native.Nat.{ℕ, pred, _≤_}
-use mathlib.Core.Path.{_≡_, refl, sym, ap, _∙_}
+use Prim.Native.Nat.{ℕ, pred}
+use mathlib.Core.Path.{refl, sym, ap, _∙_}
 use native.Mathlib.Omega.{arith}
 use borrow.Author.Needs.{needs}
 use Rattle.model.specs.Counted.{counted, M}

@@ -1,7 +1,7 @@
 -- `put_head` meets its contract: three numbers, one after the other.
 use native.Mathlib.Omega.{arith}
 use borrow.Author.Needs.{needs}
-use lib.ListN.{set, length-set}
+use lib.ListN.{length-set}
 use Rattle.rows.proofs.Tables.{head-stored}
 use Rattle.rows.proofs.table.put_head.Statement.{statement}
 use Rattle.rows.proofs.table.put_head.Tie as tie

@@ -1,5 +1,4 @@
 -- `put_pair` meets its contract: one number in each column.
-use mathlib.Core.Path.{_∙_}
 use native.Mathlib.Omega.{arith}
 use borrow.Author.Needs.{needs}
 use lib.ListN.{length-set}
