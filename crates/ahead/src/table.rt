@@ -106,8 +106,8 @@ fn put_lanes(
     let mut place = 0;
     while place < sheet.job_count {
         let one = sheet.jobs[place as usize];
-        let with = arrive(sizes.bound, queue, one.size, one.deadline);
-        lanes[at + place as usize] = lane_of(counts, sizes, with);
+        let joined = arrive(sizes.bound, queue, one.size, one.deadline);
+        lanes[at + place as usize] = lane_of(counts, sizes, joined);
         place += 1;
     }
 }

@@ -54,39 +54,43 @@ start-read c =
 
 -- a turn of the loop
 
-module _ (c : tie.At-loop Inv-loop μ-loop) where
+abbrev begun : tie.At-loop Inv-loop μ-loop → tie.Start Inv-loop μ-loop
+begun c = c .before .before .before .before .before .before .before .before .before
+
+module _ (c : tie.Then1 Inv-loop μ-loop) where
+  abbrev turn : tie.At-loop Inv-loop μ-loop
+  turn = c .before .before
+
   abbrev start : tie.Start Inv-loop μ-loop
-  start = c .before .before .before .before .before .before .before .before .before
+  start = begun turn
 
   abbrev sizes : Sizes
   sizes = start .args .sizes
 
-  -- the two numbers that were read of the block's line
+  -- D times M, and one less of M
+  most-is : (pred (sizes .bound) * sizes .largest + sizes .largest ≡ sizes .bound * sizes .largest) × (sizes .bound * sizes .largest ≤ 48)
+  most-is =
+      let some = mul-le-mul-right (sizes .largest) (start .pre .0 .measured .bound-low) in
+      (omega (arith, most-before (start .pre .0), some), most-total (start .pre .0 .measured))
 
-  abbrev lowest : ℕ
-  lowest = getD (start .args .lanes .now) (c .before .before .before .before .before .line-at .result + 1) 0
+  -- the last total is one of the block's
+  below : lowestOf (sizes .largest) (pred (sizes .bound)) (start .args .block) + turn .loop .steps ≤ pred (sizes .bound) * sizes .largest
+  below = omega (arith, turn .loop .inv .0, c .if1 .taken, most-before (start .pre .0))
 
-  abbrev first : ℕ
-  first = getD (start .args .lanes .now) (c .before .before .before .before .before .line-at .result) 0
+  within : Within sizes (start .args .block) (turn .loop .steps)
+  within = record { block-low = start .pre .1; steps-high = below }
 
-  most-small : suc (pred (sizes .bound) * sizes .largest) ≤ 49
-  most-small = omega (arith, most-before (start .pre .0), most-total (start .pre .0 .measured))
+  -- so that its queue has a number, and the lanes have not risen far
+  number-few : startOf (sizes .largest) (pred (sizes .bound)) (start .args .block) + turn .loop .steps < 7084
+  number-few =
+      omega (
+        arith,
+        number-low (start .pre .0) (start .args .block) (start .pre .1) (turn .loop .steps) within,
+        after-room (start .pre .0 .measured),
+      )
 
-  most-few : sizes .after ≤ 7084
-  most-few = after-room (start .pre .0 .measured)
-
-  module _ (taken : lowest + c .loop .steps ≤ sizes .bound * sizes .largest - sizes .largest) where
-    below : (lowest + c .loop .steps ≤ pred (sizes .bound) * sizes .largest) × (pred (sizes .bound) * sizes .largest + sizes .largest ≡ sizes .bound * sizes .largest)
-    below = (omega (arith, taken, most-before (start .pre .0)), omega (arith, most-before (start .pre .0), mul-le-mul-right (sizes .largest) (start .pre .0 .measured .bound-low)))
-
-    within : Within sizes (start .args .block) (c .loop .steps)
-    within = record { block-low = start .pre .1; steps-high = omega (arith, below, c .loop .inv .0) }
-
-    low : first + c .loop .steps < sizes .after
-    low = omega (arith, c .loop .inv .1, number-low (start .pre .0) (start .args .block) (start .pre .1) (c .loop .steps) within)
-
-    far-small : c .loop .far ≤ 48 * 49
-    far-small = omega (arith, c .loop .inv .3, risen-small (start .pre .0) (start .args .block) (start .pre .1) (c .loop .steps) within)
+  far-small : turn .loop .far ≤ 48 * 49
+  far-small = omega (arith, turn .loop .inv .3, risen-small (start .pre .0) (start .args .block) (start .pre .1) (turn .loop .steps) within)
 
 line-at-requires : tie.Need-line-at-requires Inv-loop μ-loop
 line-at-requires c κs =
@@ -132,63 +136,79 @@ loop-holds c =
     )
 
 add-if1 : tie.Need-add-if1 Inv-loop μ-loop
-add-if1 c = omega (arith, c .loop .inv .2, most-small c)
+add-if1 c =
+    let given = begun c .pre .0 in
+    omega (arith, c .loop .inv .2, most-before given, most-total (given .measured))
 
 sub-if1 : tie.Need-sub-if1 Inv-loop μ-loop
 sub-if1 c =
-    let start = c .before .before .before .before .before .before .before .before .before .before in
+    let start = begun (c .before) in
     omega (arith, mul-le-mul-right (start .args .sizes .largest) (start .pre .0 .measured .bound-low))
 
 sum-at-requires : tie.Need-sum-at-requires Inv-loop μ-loop
-sum-at-requires c κs =
-    let l = c .before .before in
-    let start = l .before .before .before .before .before .before .before .before .before in
-    (start .pre .0, within l (c .if1 .taken), l .loop .inv .3)
+sum-at-requires c κs = (start c .pre .0, within c, turn c .loop .inv .3)
 
 cast-store : tie.Need-cast-store Inv-loop μ-loop
-cast-store c = omega (arith, low (c .before .before .before .before) (c .before .before .if1 .taken), most-few (c .before .before .before .before))
+cast-store c = omega (arith, number-few (c .before .before))
 
 add-store : tie.Need-add-store Inv-loop μ-loop
-add-store c = omega (arith, low (c .before .before .before .before) (c .before .before .if1 .taken), most-few (c .before .before .before .before))
+add-store c = omega (arith, turn (c .before .before) .loop .inv .1, number-few (c .before .before))
 
 store-requires : tie.Need-store-requires Inv-loop μ-loop
 store-requires c κs =
-    let l = c .before .before .before .before in
-    let start = l .before .before .before .before .before .before .before .before .before in
-    fewer-fit width {m = start .args .sizes .after} (omega (arith, low l (c .before .before .if1 .taken))) (omega (arith, start .pre .2, l .loop .inv .4 .same-length))
+    let t = c .before .before in
+    let start = start t in
+    let l = turn t .loop in
+    fewer-fit width {m = start .args .sizes .after}
+    (omega (arith, l .inv .1, number-low (start .pre .0) (start .args .block) (start .pre .1) (l .steps) (within t)))
+    (omega (arith, start .pre .2, l .inv .4 .same-length))
 
 add-far : tie.Need-add-far Inv-loop μ-loop
-add-far c = omega (arith, most-total (c .before .before .before .before .before .before .before .before .before .before .before .before .before .before .before .before .pre .0 .measured))
+add-far c = omega (arith, most-is (c .before .before .before .before .before))
+
+-- the lowest last total and the steps, behind the store
+steps-low : (c : tie.Then1 Inv-loop μ-loop) →
+    let t = turn c in
+    getD (start c .args .lanes .now) (t .before .before .before .before .before .line-at .result + 1) 0 + t .loop .steps ≤
+    sizes c .bound * sizes c .largest
+steps-low c = omega (arith, turn c .loop .inv .0, below c, most-is c)
 
 sub-far : tie.Need-sub-far Inv-loop μ-loop
-sub-far c = omega (arith, below (c .before .before .before .before .before .before .before) (c .before .before .before .before .before .if1 .taken))
+sub-far c = omega (arith, steps-low (c .before .before .before .before .before))
 
 sub-far-2 : tie.Need-sub-far-2 Inv-loop μ-loop
-sub-far-2 c = omega (arith, below (c .before .before .before .before .before .before .before) (c .before .before .before .before .before .if1 .taken))
+sub-far-2 c = omega (arith, steps-low (c .before .before .before .before .before))
 
 add-far-2 : tie.Need-add-far-2 Inv-loop μ-loop
-add-far-2 c = omega (arith, far-small (c .before .before .before .before .before .before .before) (c .before .before .before .before .before .if1 .taken), most-total (c .before .before .before .before .before .before .before .before .before .before .before .before .before .before .before .before .pre .0 .measured))
+add-far-2 c =
+    let t = c .before .before .before .before .before in
+    omega (arith, far-small t, most-is t)
 
 add-steps : tie.Need-add-steps Inv-loop μ-loop
-add-steps c = omega (arith, below (c .before .before .before .before .before .before .before) (c .before .before .before .before .before .if1 .taken), most-total (c .before .before .before .before .before .before .before .before .before .before .before .before .before .before .before .before .pre .0 .measured))
+add-steps c =
+    let t = c .before .before .before .before .before in
+    omega (arith, below t, most-is t)
 
 loop-less : tie.Need-loop-less Inv-loop μ-loop
-loop-less c = omega (arith, below (c .before .before .before .before .before .before .before) (c .before .before .before .before .before .if1 .taken))
+loop-less c =
+    let t = c .before .before .before .before .before in
+    omega (arith, turn t .loop .inv .0, below t)
 
 loop-again : tie.Need-loop-again Inv-loop μ-loop
 loop-again c =
-    let l = c .before .before .before .before .before .before .before in
-    let start = l .before .before .before .before .before .before .before .before .before in
+    let t = c .before .before .before .before .before in
+    let l = turn t .loop in
+    let start = start t in
     let a = start .args in
-    let taken = c .before .before .before .before .before .if1 .taken in
-    let inside = within l taken in (
-      l .loop .inv .0,
-      l .loop .inv .1,
-      omega (arith, below l taken),
-      risen-more (a .sizes .bound * a .sizes .largest + 1 - lowestOf (a .sizes .largest) (pred (a .sizes .bound)) (a .block)) (l .loop .steps) (l .loop .inv .3)
-          (ap (λ (x : ℕ). a .sizes .bound * a .sizes .largest + 1 - x - l .loop .steps) (l .loop .inv .0)),
-      ahead-more width (a .sizes) _ (a .block) (block-low (start .pre .0) (a .block) (start .pre .1)) (l .loop .steps) _ inside
-          (ap (λ (x : ℕ). x + l .loop .steps) (l .loop .inv .1)) (c .before .before .before .before .sum-at .ensures) (l .loop .inv .4) (c .before .before .store .ensures),
+    let most = a .sizes .bound * a .sizes .largest + 1 in
+    let lowest = lowestOf (a .sizes .largest) (pred (a .sizes .bound)) (a .block) in (
+      l .inv .0,
+      l .inv .1,
+      omega (arith, l .inv .0, below t),
+      risen-more (most - lowest) (l .steps) (l .inv .3) (ap (λ (x : ℕ). most - x - l .steps) (l .inv .0)),
+      ahead-more width (a .sizes) _ (a .block) (block-low (start .pre .0) (a .block) (start .pre .1)) (l .steps) _ (within t)
+          (ap (λ (x : ℕ). x + l .steps) (l .inv .1)) (c .before .before .before .before .sum-at .ensures) (l .inv .4)
+          (c .before .before .store .ensures),
     )
 
 same-length : tie.Need-same-length Inv-loop μ-loop
@@ -196,14 +216,17 @@ same-length c = c .before .before .loop .inv .4 .same-length
 
 returns : tie.Need-returns Inv-loop μ-loop
 returns c =
-    let l = c .before .before in
-    let start = l .before .before .before .before .before .before .before .before .before in
+    let l = c .before .before .loop in
+    let start = begun (c .before .before) in
     let a = start .args in
     let lowest = lowestOf (a .sizes .largest) (pred (a .sizes .bound)) (a .block) in
-    let all : lowest + l .loop .steps ≡ suc (pred (a .sizes .bound) * a .sizes .largest) =
-    omega (arith, l .loop .inv .0, l .loop .inv .2, c .if1 .left, most-before (start .pre .0)) in
-    subst (λ (x : ℕ). FillsWhere (width .places) (readAt width) (λ i. sumLeft width (counted (a .sheet)) (a .sizes) (a .next) (a .values .now) i (a .sheet .«job_count»)) 0
-    (InBlock (a .sizes .largest) (pred (a .sizes .bound)) (a .block) x) (a .ahead .now) (l .loop .ahead)) all (l .loop .inv .4)
+    let all : lowest + l .steps ≡ suc (pred (a .sizes .bound) * a .sizes .largest) =
+    omega (arith, l .inv .0, l .inv .2, c .if1 .left, most-before (start .pre .0)) in
+    subst
+    (λ (x : ℕ). FillsWhere (width .places) (readAt width)
+    (λ i. sumLeft width (counted (a .sheet)) (a .sizes) (a .next) (a .values .now) i (a .sheet .«job_count»)) 0
+    (InBlock (a .sizes .largest) (pred (a .sizes .bound)) (a .block) x) (a .ahead .now) (l .ahead))
+    all (l .inv .4)
 
 pub fill-block-spec : {M : Type 1} → statement M
 fill-block-spec =

@@ -15,35 +15,43 @@ use Rattle.choose.proofs.row.fill_block.Tie as tie
 abbrev Inv-loop : tie.InvT-loop
 Inv-loop sheet sizes scale lanes ahead block this row values₀ plan₀ end last₀ values plan last =
     (last₀ ≤ last) × (last ≤ suc end) × (last₀ ≡ lowestOf (sizes .largest) (sizes .bound) block) ×
-    LeftWhere width (counted sheet) sizes (valueOf scale) ahead this row (InBlock (sizes .largest) (sizes .bound) block last) values₀ plan₀ values plan
+    LeftWhere width (counted sheet) sizes (valueOf scale) ahead this row (InBlock (sizes .largest) (sizes .bound) block last)
+    values₀ plan₀ values plan
 
 abbrev μ-loop : tie.MeasureT-loop
 μ-loop sheet sizes scale lanes ahead block this row values₀ plan₀ end last₀ values plan last = suc end - last
 
--- the block's line is within the table, as the code finds it
-line : (c : tie.After-line-at Inv-loop μ-loop) → c .line-at .result + 3 ≤ length (c .before .before .before .before .before .before .before .args .lanes .now)
-line c =
-    let start = c .before .before .before .before .before .before .before in
-    omega (arith, c .line-at .ensures, line-room (start .pre .0) (start .args .block) (start .pre .1))
+-- the block's line
+
+abbrev found : tie.After-line-at Inv-loop μ-loop → tie.Start Inv-loop μ-loop
+found c = c .before .before .before .before .before .before .before
+
+-- it is within the table, as the code finds it
+line : (c : tie.After-line-at Inv-loop μ-loop) → c .line-at .result + 3 ≤ length (found c .args .lanes .now)
+line c = omega (arith, c .line-at .ensures, line-room (found c .pre .0) (found c .args .block) (found c .pre .1))
 
 -- the lowest last total of the block
 lowest : (c : tie.After-line-at Inv-loop μ-loop) →
-    let a = c .before .before .before .before .before .before .before .args in
+    let a = found c .args in
     getD (a .lanes .now) (c .line-at .result + 1) 0 ≡ lowestOf (a .sizes .largest) (a .sizes .bound) (a .block)
 lowest c =
-    let start = c .before .before .before .before .before .before .before in
-    ap (λ (p : ℕ). getD (start .args .lanes .now) (p + 1) 0) (c .line-at .ensures) ∙
-    line-lowest (start .pre .0) (start .args .block) (start .pre .1)
+    ap (λ (p : ℕ). getD (found c .args .lanes .now) (p + 1) 0) (c .line-at .ensures) ∙
+    line-lowest (found c .pre .0) (found c .args .block) (found c .pre .1)
 
--- a turn of the loop is at a queue of the block
+-- a turn of the loop
+
+abbrev begun : tie.At-loop Inv-loop μ-loop → tie.Start Inv-loop μ-loop
+begun c = c .before .before .before .before .before .before .before .before .before
+
+-- it is at a queue of the block
 within : (c : tie.At-loop Inv-loop μ-loop) →
-    let a = c .before .before .before .before .before .before .before .before .before .args in
+    let a = begun c .args in
     c .loop .last ≤ a .sizes .bound * a .sizes .largest → Within (a .sizes) (a .block) (c .loop .last)
-within c taken =
+within c high =
     record {
-      block-low = c .before .before .before .before .before .before .before .before .before .pre .1;
+      block-low = begun c .pre .1;
       last-low = omega (arith, c .loop .inv .0, c .loop .inv .2);
-      last-high = taken;
+      last-high = high;
     }
 
 cast-end : tie.Need-cast-end Inv-loop μ-loop
@@ -81,28 +89,30 @@ loop-holds c =
 fill-queue-requires : tie.Need-fill-queue-requires Inv-loop μ-loop
 fill-queue-requires c κs =
     let l = c .before .before .before in
-    let start = l .before .before .before .before .before .before .before .before .before in (
+    let start = begun l in (
       start .pre .0,
-      within l (c .before .before .loop-test .taken),
+      within l (omega (arith, c .before .before .loop-test .taken)),
       omega (arith, start .pre .2, l .loop .inv .3 .values-filled .same-length),
       omega (arith, start .pre .3, l .loop .inv .3 .plan-filled .same-length),
     )
 
 add-last-2 : tie.Need-add-last-2 Inv-loop μ-loop
-add-last-2 c = omega (arith, c .before .before .before .before .before .before .before .loop-test .taken, most-total (c .before .before .before .before .before .before .before .before .before .before .before .before .before .before .before .before .before .pre .0 .measured))
+add-last-2 c =
+    let t = c .before .before .before .before .before .before .before in
+    omega (arith, t .loop-test .taken, most-total (begun (t .before) .pre .0 .measured))
 
 loop-less : tie.Need-loop-less Inv-loop μ-loop
 loop-less c = omega (arith, c .before .before .before .before .before .before .before .loop-test .taken)
 
 loop-again : tie.Need-loop-again Inv-loop μ-loop
 loop-again c =
-    let l = c .before .before .before .before .before .before .before .before in
-    let start = l .before .before .before .before .before .before .before .before .before in
+    let t = c .before .before .before .before .before .before .before in
+    let l = t .before in
+    let start = begun l in
     let a = start .args in
-    let taken = c .before .before .before .before .before .before .before .loop-test .taken in
-    let inside = within l taken in (
+    let inside = within l (omega (arith, t .loop-test .taken)) in (
       omega (arith, l .loop .inv .0),
-      omega (arith, taken),
+      omega (arith, t .loop-test .taken),
       l .loop .inv .2,
       left-more width (counted (a .sheet)) (a .sizes) (valueOf (a .scale)) (a .ahead .now) (a .this) (a .row) (a .block)
           (block-low (start .pre .0) (a .block) (start .pre .1)) (l .loop .last) (inside .last-low) (inside .last-high) (l .loop .inv .3)
@@ -118,11 +128,12 @@ same-length-2 c = c .before .loop .inv .3 .plan-filled .same-length
 returns : tie.Need-returns Inv-loop μ-loop
 returns c =
     let l = c .before in
-    let start = l .before .before .before .before .before .before .before .before .before in
-    let a = start .args in
+    let a = begun l .args in
     let all : l .loop .last ≡ suc (a .sizes .bound * a .sizes .largest) = omega (arith, l .loop .inv .1, c .loop-test .left) in
-    subst (λ (x : ℕ). LeftWhere width (counted (a .sheet)) (a .sizes) (valueOf (a .scale)) (a .ahead .now) (a .this) (a .row)
-    (InBlock (a .sizes .largest) (a .sizes .bound) (a .block) x) (a .values .now) (a .plan .now) (l .loop .values) (l .loop .plan)) all (l .loop .inv .3)
+    subst
+    (λ (x : ℕ). LeftWhere width (counted (a .sheet)) (a .sizes) (valueOf (a .scale)) (a .ahead .now) (a .this) (a .row)
+    (InBlock (a .sizes .largest) (a .sizes .bound) (a .block) x) (a .values .now) (a .plan .now) (l .loop .values) (l .loop .plan))
+    all (l .loop .inv .3)
 
 pub fill-block-spec : {M : Type 1} → statement M
 fill-block-spec =

@@ -1,0 +1,13 @@
+// The planner as the benchmark's C program calls it (tests/bench): one function for `rt staticlib`, and nothing that anything else needs.
+
+// Reads the bytes of a sheet and plans it in lent memory: the number that the reader answers, or the planner. What the two leave is in their
+// own contracts; the benchmark compares it.
+#[no_mangle]
+pub extern "C" fn bench_plan(bytes: &[u8], values: &mut [u64], plan: &mut [u8]) -> u32 {
+    let read = codec::read(bytes);
+    if read.number != 0 {
+        return read.number;
+    }
+    let answer = planner::plan(read.sheet, values, plan);
+    answer.number
+}
