@@ -37,7 +37,9 @@ module _ (s : Counted) (f : Queue → Option ℕ) (v : Queue) where
   pub sum-none : (n j : ℕ) → j < n → f (joined s v j) ≡ none → sumTo s f v n ≡ none
   unfolding sumTo
   sum-none zero j h e = absurd (not-suc-le-zero h)
-  sum-none (suc n) j h e = sum-or-none-more (λ i. times (weightAt s i) (f (joined s v i))) n ∙ go (eq-or-lt-of-le (le-of-suc-le-suc h)) (sum-none n j)
+  sum-none (suc n) j h e =
+      sum-or-none-more (λ i. times (weightAt s i) (f (joined s v i))) n ∙ go (eq-or-lt-of-le (le-of-suc-le-suc h))
+      (sum-none n j)
     where
       go : (j ≡ n) ⊎ (j < n) → (j < n → f (joined s v j) ≡ none → sumTo s f v n ≡ none) →
           plus (sumTo s f v n) (times (weightAt s n) (f (joined s v n))) ≡ none

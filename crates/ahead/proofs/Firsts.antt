@@ -49,7 +49,8 @@ module _ (M : ℕ) where
       let long : length v ≡ suc d = length-kept (queueWith M d b) ∙ ap suc (listed-bearable M d b h .0) in
       kept-places (suc d) v few long e here ∙ ap (λ (q : Queue). placesOf (kept q)) (sym (take-all (suc d) v (omega arith)))
 
-module _ (M D b : ℕ) (low : 1 ≤ D) (r : Ranges M D) (h : b < queueCount M (pred (pred D))) {queue : List ℕ} (e : queue ≡ placesOf (firstAfter M D b)) where
+module _ (M D b : ℕ) (low : 1 ≤ D) (r : Ranges M D) (h : b < queueCount M (pred (pred D))) {queue : List ℕ}
+    (e : queue ≡ placesOf (firstAfter M D b)) where
   abbrev v : Queue
   v = firstOf M (pred D) b
 

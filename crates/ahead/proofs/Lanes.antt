@@ -50,7 +50,12 @@ shifted-arrive d k v w c dl low a =
       long-too = length-arrive w c dl ∙ a .long-too;
       same = each;
       before-is =
-          omega (arith, total-arrive v c dl d low (omega (arith, a .long)), total-arrive w c dl d low (omega (arith, a .long-too)), a .before-is);
+          omega (
+            arith,
+            total-arrive v c dl d low (omega (arith, a .long)),
+            total-arrive w c dl d low (omega (arith, a .long-too)),
+            a .before-is,
+          );
       last-is =
           omega (
             arith,

@@ -36,7 +36,8 @@ use Rattle.ahead.proofs.Adding.{sum-none, steps-each, steps-past}
 use Rattle.ahead.proofs.Firsts.{first-of, lowest-upto, most-fewer}
 use Rattle.ahead.proofs.Lanes.{lane-says}
 
-module _ {width : Width} {s : Counted} {sizes : Sizes} {lanes : List ℕ} {next : ℕ} {values : List ℕ} (given : Given width s sizes lanes next values) where
+module _ {width : Width} {s : Counted} {sizes : Sizes} {lanes : List ℕ} {next : ℕ} {values : List ℕ}
+    (given : Given width s sizes lanes next values) where
   abbrev M : ℕ
   M = sizes .largest
 
@@ -118,8 +119,11 @@ module _ {width : Width} {s : Counted} {sizes : Sizes} {lanes : List ℕ} {next 
       abbrev v : Queue
       v = afterWith M D (stepped sizes b k)
 
-      placed : InBlock M (pred D) b (suc (lowestOf M (pred D) b + k)) (stepped sizes b k) × (lastOf M (pred D) (stepped sizes b k) ≡ lowestOf M (pred D) b + k)
-      placed = block-place M (pred D) b (lowestOf M (pred D) b + k) (stepped sizes b k) block-low (omega arith) (inside .steps-high) (omega arith)
+      placed : InBlock M (pred D) b (suc (lowestOf M (pred D) b + k)) (stepped sizes b k) ×
+          (lastOf M (pred D) (stepped sizes b k) ≡ lowestOf M (pred D) b + k)
+      placed =
+          block-place M (pred D) b (lowestOf M (pred D) b + k) (stepped sizes b k) block-low (omega arith) (inside .steps-high)
+          (omega arith)
 
       -- the queue's number is one of a queue after a slot
       pub number-low : stepped sizes b k < sizes .after
@@ -205,7 +209,8 @@ module _ (width : Width) (sizes : Sizes) (f : ℕ → Option ℕ) where
   ahead-begun l = blocks-none (width .places) (readAt width) (read-local width) (sizes .largest) (pred (sizes .bound)) f 0 l
 
   -- after the last block all is
-  pub ahead-whole : Measured sizes → (b : ℕ) {l₀ l : List ℕ} → b ≡ sizes .blocks → Done (InBlocks (sizes .largest) (pred (sizes .bound)) b) l₀ l →
+  pub ahead-whole : Measured sizes → (b : ℕ) {l₀ l : List ℕ} → b ≡ sizes .blocks →
+      Done (InBlocks (sizes .largest) (pred (sizes .bound)) b) l₀ l →
       Fills (width .places) (readAt width) f 0 (sizes .after) l₀ l
   ahead-whole m b all filled =
       blocks-whole (width .places) (readAt width) (read-local width) (sizes .largest) (pred (sizes .bound)) f 0 b (sizes .after)

@@ -46,7 +46,8 @@ fn sum_of(
     far: u32,
 ) -> Value
     requires { ⌜ Given width (counted sheet) sizes (now lanes) next (now values) × Stepped (counted sheet) sizes block steps far ⌝ }
-    ensures { λ r. ⌜ valueOf r ≡ sumLeft width (counted sheet) sizes next (now (values .entry)) (stepped sizes block steps) (sheet .«job_count») ⌝ }
+    ensures { λ r. ⌜ valueOf r ≡ sumLeft width (counted sheet) sizes next (now (values .entry)) (stepped sizes block steps)
+        (sheet .«job_count») ⌝ }
 {
     let mut sum = value::of(0);
     let mut place = 0;
@@ -74,7 +75,8 @@ pub fn sum_at(
 ) -> Value
     requires { ⌜ Given width (counted sheet) sizes (now lanes) next (now values) × Within sizes block steps ×
         (far ≡ riseOf sizes block steps) ⌝ }
-    ensures { λ r. ⌜ valueOf r ≡ sumLeft width (counted sheet) sizes next (now (values .entry)) (stepped sizes block steps) (sheet .«job_count») ⌝ }
+    ensures { λ r. ⌜ valueOf r ≡ sumLeft width (counted sheet) sizes next (now (values .entry)) (stepped sizes block steps)
+        (sheet .«job_count») ⌝ }
 {
     if lanes[line_at(32, sheet.job_count, block) + 2] <= steps {
         return value::none();

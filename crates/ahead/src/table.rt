@@ -147,7 +147,8 @@ fn put_line(counts: &[u32; 2352], sheet: Sheet, sizes: Sizes, block: usize, lane
 fn fill_lines(counts: &[u32; 2352], sheet: Sheet, sizes: Sizes, lanes: &mut [u32])
     requires { ⌜ HoldsCounts (now counts) × Measured sizes × (fieldsRefusal (counted sheet) ≡ 0) ×
         (lineAt 32 (sheet .«job_count») (sizes .blocks) ≤ length (now lanes)) ⌝ }
-    ensures { λ r. ⌜ Lines 32 (sheet .«job_count») (sizes .blocks) (entryLine (sizes .largest) (sizes .bound) (counted sheet)) (now (lanes .exit)) ×
+    ensures { λ r. ⌜ Lines 32 (sheet .«job_count») (sizes .blocks) (entryLine (sizes .largest) (sizes .bound) (counted sheet))
+        (now (lanes .exit)) ×
         ((p : ℕ) → p < 64 → getD (now (lanes .exit)) p 0 ≡ getD (now (lanes .entry)) p 0) ⌝ }
 {
     let mut block = 0;

@@ -88,7 +88,8 @@ module _ (width : Width) (s : Counted) {sizes : Sizes} (m : Measured sizes) (g :
             let w = queueWith (sizes .largest) (sizes .bound) n in
             subst (λ (r : Option ℕ). Below (width .limit) r)
             (sym (costs-told scale n h j ∙ ap (λ (q : Option ℕ). costBy g q w (speedAt s j) (energyAt s j)) e))
-            (below-limit (costBy g (some unit) w (speedAt s j) (energyAt s j)) (cost-upto g most upto unit w (speedAt s j) (energyAt s j)) (low j k));
+            (below-limit (costBy g (some unit) w (speedAt s j) (energyAt s j)) (cost-upto g most upto unit w (speedAt s j) (energyAt s j))
+            (low j k));
       }
 
   -- what it leaves: what the least by the function is worth, and its speed

@@ -68,7 +68,8 @@ module _ (speed : ℕ → ℕ) (cost : ℕ → Option ℕ) where
       (subst (λ (p : Option ℕ). IsChoice (better (leastTo speed cost j) a p) best q) d (more (leastTo speed cost j) so-far)))
 
   -- all
-  pub least-whole : (j n : ℕ) {best : ℕ} {q : Option ℕ} → j ≡ n → IsChoice (leastTo speed cost j) best q → IsChoice (leastTo speed cost n) best q
+  pub least-whole : (j n : ℕ) {best : ℕ} {q : Option ℕ} → j ≡ n → IsChoice (leastTo speed cost j) best q →
+      IsChoice (leastTo speed cost n) best q
   least-whole j n {best} {q} e i = subst (λ (k : ℕ). IsChoice (leastTo speed cost k) best q) e i
 
   -- as the code keeps it, the least has a speed that fits a byte where every speed does

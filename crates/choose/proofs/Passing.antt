@@ -36,7 +36,8 @@ use Rattle.choose.proofs.Choices.{least-small}
 use Rattle.choose.proofs.Costs.{cost-none, cost-some}
 use Rattle.choose.proofs.Lanes.{leads-parts, leads-carries, leads-nowhere, lane-says}
 
-module _ {width : Width} {s : Counted} {sizes : Sizes} {scale : Option ℕ} {lanes ahead : List ℕ} (given : Given width s sizes scale lanes ahead) where
+module _ {width : Width} {s : Counted} {sizes : Sizes} {scale : Option ℕ} {lanes ahead : List ℕ}
+    (given : Given width s sizes scale lanes ahead) where
   -- the sheet keeps its ranges
   pub in-range : Ranged s
   in-range = ranged s (given .fields)
@@ -72,7 +73,8 @@ module _ {width : Width} {s : Counted} {sizes : Sizes} {scale : Option ℕ} {lan
       omega (
         arith,
         i .speed-is,
-        least-small (speedAt s) (costAt width (sizes .largest) (sizes .bound) s ahead scale w) (s .speedCount) (λ j h. omega (arith, speed-small j h)),
+        least-small (speedAt s) (costAt width (sizes .largest) (sizes .bound) s ahead scale w) (s .speedCount)
+            (λ j h. omega (arith, speed-small j h)),
       )
 
   module _ (b : ℕ) (block : b < sizes .after) where
@@ -196,8 +198,8 @@ module _ {width : Width} {s : Counted} {sizes : Sizes} {scale : Option ℕ} {lan
               )
 
 -- what is chosen in a queue, stored in both rows
-pub left-stored : (width : Width) (s : Counted) (sizes : Sizes) (scale : Option ℕ) (ahead : List ℕ) (this row : ℕ) {n m speed : ℕ} {r : Option ℕ}
-    {values values′ plan : List ℕ} → m ≡ n →
+pub left-stored : (width : Width) (s : Counted) (sizes : Sizes) (scale : Option ℕ) (ahead : List ℕ) (this row : ℕ)
+    {n m speed : ℕ} {r : Option ℕ} {values values′ plan : List ℕ} → m ≡ n →
     IsChoice (leastIn width (sizes .largest) (sizes .bound) s ahead scale (queueWith (sizes .largest) (sizes .bound) n)) speed r →
     Fills (width .places) (readAt width) (λ i. r) (this + m) 1 values values′ → row + m < length plan →
     Left width s sizes scale ahead this row n values plan values′ (set plan (row + m) speed)
@@ -225,7 +227,8 @@ module _ (width : Width) (s : Counted) (sizes : Sizes) (scale : Option ℕ) (ahe
         subst (λ (y : ℕ). Done (InBlock (sizes .largest) (sizes .bound) b y) values plan values plan) (sym e)
         (record {
           values-filled =
-              block-none (width .places) (readAt width) (read-local width) (sizes .largest) (sizes .bound) (valueLeft width s sizes scale ahead) this b h values;
+              block-none (width .places) (readAt width) (read-local width) (sizes .largest) (sizes .bound)
+              (valueLeft width s sizes scale ahead) this b h values;
           plan-filled =
               block-none 1 numberAt number-local (sizes .largest) (sizes .bound) (byteLeft width s sizes scale ahead) row b h plan;
         })
@@ -239,7 +242,8 @@ module _ (width : Width) (s : Counted) (sizes : Sizes) (scale : Option ℕ) (ahe
         rw add-one
         (record {
           values-filled =
-              block-more (width .places) (readAt width) (read-local width) (sizes .largest) (sizes .bound) (valueLeft width s sizes scale ahead) this b h x
+              block-more (width .places) (readAt width) (read-local width) (sizes .largest) (sizes .bound)
+              (valueLeft width s sizes scale ahead) this b h x
               (numberIn (sizes .largest) (sizes .bound) b x) low high refl refl refl (so-far .values-filled) (left .value-filled);
           plan-filled =
               block-more 1 numberAt number-local (sizes .largest) (sizes .bound) (byteLeft width s sizes scale ahead) row b h x
@@ -254,7 +258,8 @@ module _ (width : Width) (s : Counted) (sizes : Sizes) (scale : Option ℕ) (ahe
     left-block x high so-far block =
         record {
           values-filled =
-              blocks-more (width .places) (readAt width) (read-local width) (sizes .largest) (sizes .bound) (valueLeft width s sizes scale ahead) this b x h
+              blocks-more (width .places) (readAt width) (read-local width) (sizes .largest) (sizes .bound)
+              (valueLeft width s sizes scale ahead) this b x h
               high (so-far .values-filled) (block .values-filled);
           plan-filled =
               blocks-more 1 numberAt number-local (sizes .largest) (sizes .bound) (byteLeft width s sizes scale ahead) row b x h high
@@ -266,7 +271,8 @@ module _ (width : Width) (s : Counted) (sizes : Sizes) (scale : Option ℕ) (ahe
   left-begun values plan =
       record {
         values-filled =
-            blocks-none (width .places) (readAt width) (read-local width) (sizes .largest) (sizes .bound) (valueLeft width s sizes scale ahead) this values;
+            blocks-none (width .places) (readAt width) (read-local width) (sizes .largest) (sizes .bound)
+            (valueLeft width s sizes scale ahead) this values;
         plan-filled = blocks-none 1 numberAt number-local (sizes .largest) (sizes .bound) (byteLeft width s sizes scale ahead) row plan;
       }
 
@@ -277,7 +283,8 @@ module _ (width : Width) (s : Counted) (sizes : Sizes) (scale : Option ℕ) (ahe
   left-whole m b all filled =
       record {
         values-filled =
-            blocks-whole (width .places) (readAt width) (read-local width) (sizes .largest) (sizes .bound) (valueLeft width s sizes scale ahead) this b
+            blocks-whole (width .places) (readAt width) (read-local width) (sizes .largest) (sizes .bound)
+            (valueLeft width s sizes scale ahead) this b
             (sizes .queues) (all ∙ m .after-is) (m .queues-is) (filled .values-filled);
         plan-filled =
             blocks-whole 1 numberAt number-local (sizes .largest) (sizes .bound) (byteLeft width s sizes scale ahead) row b (sizes .queues)

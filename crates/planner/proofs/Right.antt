@@ -113,14 +113,17 @@ read-value-in l i = read-is l i
 -- such memory is filled as the model says
 pub memory-filled : (s : Counted) → Accepted s → {values₀ plan₀ values plan : List ℕ} →
     PlannedFrom narrow.width s (s .horizon) values₀ plan₀ values plan → (answer : PlanAnswer) {place : ℕ} {r : Option ℕ} →
-    place ≡ placeAt s 0 0 → r ≡ readAt narrow.width values place → answer .queues ≡ N s → answer .number ≡ number12 r → answer .least ≡ Option·getD r 0 →
+    place ≡ placeAt s 0 0 → r ≡ readAt narrow.width values place → answer .queues ≡ N s → answer .number ≡ number12 r → answer .least ≡
+    Option·getD r 0 →
     Filled valueIn s values₀ plan₀ values plan answer
 memory-filled s a {values₀ = values₀} {plan₀ = plan₀} {values = values} {plan = plan} p answer first e queues number least =
     record {
-      rows = λ t i h k.
+      rows =
+          λ t i h k.
           subst (λ (r : Option ℕ). Decided s t i r (getD plan (placeAt s t i) 0)) (read-value-in values (placeAt s t i))
           (decided narrow.width s a p t i h k);
-      end-row = λ i k.
+      end-row =
+          λ i k.
           subst (λ (r : Option ℕ). IsValueAt s (s .horizon) (queueAt s i) r) (read-value-in values (placeAt s (s .horizon) i))
           (valued narrow.width s a p (s .horizon) i (le-refl (s .horizon)) k);
       values-length = p .values-length;

@@ -97,7 +97,8 @@ module _ (width : Width) (roomy : valueLimit < width .limit) {counts : List ℕ}
       sized-same sized (λ m D. leastBy (aheadOf s left) s scale (queueWith m D n)) ∙
       ap (λ (q : Option ℕ). leastBy (aheadOf s left) s q (queueAt s n)) (ready .in-plan .scale-is) ∙ least-is s is-accepted left (queueAt s n)
 
-  left-worth : (n : ℕ) → n < N s → worth (leastBy (aheadOf s left) s scale (queueWith (sizes .largest) (sizes .bound) n)) ≡ valueWith s (suc left) (queueAt s n)
+  left-worth : (n : ℕ) → n < N s → worth (leastBy (aheadOf s left) s scale (queueWith (sizes .largest) (sizes .bound) n)) ≡ valueWith s
+      (suc left) (queueAt s n)
   left-worth n h =
       ap worth (left-choice n) ∙
       sym (value-chosen s left (queueAt s n) (listed-bearable (M s) (s .bound) n (omega (arith, N-is s)) .1))

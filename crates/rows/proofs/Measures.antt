@@ -22,7 +22,8 @@ pub one-fewer : (D : ℕ) → D - 1 ≡ pred D
 one-fewer D = omega arith
 
 -- what is said of the sizes of a sheet is said of its M and D
-pub sized-same : {s : Counted} {sizes : Sizes} {A : Type 0} → Sized s sizes → (f : ℕ → ℕ → A) → f (sizes .largest) (sizes .bound) ≡ f (M s) (s .bound)
+pub sized-same : {s : Counted} {sizes : Sizes} {A : Type 0} → Sized s sizes → (f : ℕ → ℕ → A) → f (sizes .largest) (sizes .bound) ≡ f (M s)
+    (s .bound)
 sized-same {s} {sizes} z f = ap (λ (m : ℕ). f m (sizes .bound)) (z .largest-is) ∙ ap (f (M s)) (z .bound-is)
 
 -- the sizes of an accepted sheet are the passes'

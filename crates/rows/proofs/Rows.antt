@@ -53,7 +53,8 @@ module _ (width : Width) (largest : ℕ) where
 
   -- and after a slot at a speed of at least w(1), by the positions before the last, what g gives of the queue after the slot
   pub after-says : (D : ℕ) (g : Queue → Option ℕ) (from : ℕ) (l : List ℕ) → RowAfter width largest D g from l → (w : Queue) (speed : ℕ) →
-      1 ≤ D → length w ≡ D → NeverFalls w → total w 1 ≤ speed → valueInRow width largest l from (queueIn (pred D) (run w speed)) ≡ g (run w speed)
+      1 ≤ D → length w ≡ D → NeverFalls w → total w 1 ≤ speed → valueInRow width largest l from (queueIn (pred D) (run w speed)) ≡ g
+      (run w speed)
   after-says D g from l row w speed low long never fast =
       row-found (pred D) (λ v. g (kept v)) from l (row .stands) before shorter ∙
       ap (λ (v : Queue). only (bearable largest before) (g v)) (sym (run-kept w speed (pred D) whole fast)) ∙

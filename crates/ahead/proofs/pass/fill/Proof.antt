@@ -56,7 +56,8 @@ returns : tie.Need-returns Inv-loop μ-loop
 returns c =
     let l = c .before .before in
     let start = l .before .before .before .before in
-    ahead-whole width (start .args .sizes) _ (start .pre .0 .measured) (l .loop .block) (omega (arith, l .loop .inv .0, c .if1 .left)) (l .loop .inv .1)
+    ahead-whole width (start .args .sizes) _ (start .pre .0 .measured) (l .loop .block) (omega (arith, l .loop .inv .0, c .if1 .left))
+    (l .loop .inv .1)
 
 pub fill-spec : {M : Type 1} → statement M
 fill-spec =

@@ -1,5 +1,5 @@
--- `fill_block` meets its contract. The loop's invariant: the queues so many steps from the block's first one on are filled, and a lane has risen
--- as far as it does in as many.
+-- `fill_block` meets its contract. The loop's invariant: the queues so many steps from the block's first one on are filled, and a lane has
+-- risen as far as it does in as many.
 use Prim.Native.Nat.{ℕ, suc, pred, _+_, _-_, _*_, _≤_, _<_}
 use mathlib.Core.Path.{_≡_, ap, _∙_, subst}
 use native.Mathlib.Nat.{add-zero, mul-le-mul-right}
@@ -27,7 +27,8 @@ Inv-loop sheet sizes lanes next values block ahead₀ at most lowest first far�
     (InBlock (sizes .largest) (pred (sizes .bound)) block (lowestOf (sizes .largest) (pred (sizes .bound)) block + steps)) ahead₀ ahead
 
 abbrev μ-loop : tie.MeasureT-loop
-μ-loop sheet sizes lanes next values block ahead₀ at most lowest first far₀ steps₀ ahead far steps = suc (pred (sizes .bound) * sizes .largest) - (lowest + steps)
+μ-loop sheet sizes lanes next values block ahead₀ at most lowest first far₀ steps₀ ahead far steps =
+    suc (pred (sizes .bound) * sizes .largest) - (lowest + steps)
 
 -- the block's line is within the table, as the code finds it
 line : (c : tie.After-line-at Inv-loop μ-loop) → c .line-at .result + 3 ≤ length (c .before .before .before .before .args .lanes .now)

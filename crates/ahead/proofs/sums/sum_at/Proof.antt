@@ -21,7 +21,8 @@ line c =
 steps-read : (c : tie.After-line-at) →
     let a = c .before .before .before .args in
     getD (a .lanes .now) (c .line-at .result + 2) 0 ≡
-    stepsTo (a .sizes .largest) (a .sizes .bound) (counted (a .sheet)) (firstAfter (a .sizes .largest) (a .sizes .bound) (a .block)) (a .sheet .«job_count»)
+    stepsTo (a .sizes .largest) (a .sizes .bound) (counted (a .sheet)) (firstAfter (a .sizes .largest) (a .sizes .bound) (a .block))
+    (a .sheet .«job_count»)
 steps-read c =
     let start = c .before .before .before in
     ap (λ (p : ℕ). getD (start .args .lanes .now) (p + 2) 0) (c .line-at .ensures) ∙
@@ -29,8 +30,11 @@ steps-read c =
 
 line-at-requires : tie.Need-line-at-requires
 line-at-requires c κs =
-    let start = c .before .before in
-    (omega arith, omega (arith, in-range (start .pre .0) .jobs-high), omega (arith, start .pre .1 .block-low, blocks-few (start .pre .0 .measured)))
+    let start = c .before .before in (
+      omega arith,
+      omega (arith, in-range (start .pre .0) .jobs-high),
+      omega (arith, start .pre .1 .block-low, blocks-few (start .pre .0 .measured)),
+    )
 
 add-if1 : tie.Need-add-if1
 add-if1 c = omega (arith, line c)
@@ -55,8 +59,10 @@ returns c =
 
 sum-of-requires : tie.Need-sum-of-requires
 sum-of-requires c κs =
-    let start = c .before .before .before .before .before in
-    (start .pre .0, record { within = start .pre .1; far-is = start .pre .2; before-end = omega (arith, c .if1 .left, steps-read (c .before .before)) })
+    let start = c .before .before .before .before .before in (
+      start .pre .0,
+      record { within = start .pre .1; far-is = start .pre .2; before-end = omega (arith, c .if1 .left, steps-read (c .before .before)) },
+    )
 
 returns-2 : tie.Need-returns-2
 returns-2 c = search needs

@@ -1,5 +1,5 @@
--- `sum_of` meets its contract. The loop's invariant: the sum so far is that over the entries passed. Once a value is none, so is the sum. That no
--- sum passes the limit is not in it, since no sum over some first entries does.
+-- `sum_of` meets its contract. The loop's invariant: the sum so far is that over the entries passed. Once a value is none, so is the sum.
+-- That no sum passes the limit is not in it, since no sum over some first entries does.
 use Prim.Native.Nat.{ℕ, _+_, _-_, _≤_}
 use mathlib.Core.Path.{_≡_, sym, ap, _∙_, subst}
 use mathlib.Core.Option.{Option}
@@ -18,7 +18,9 @@ use Rattle.ahead.proofs.sums.sum_of.Statement.{statement}
 use Rattle.ahead.proofs.sums.sum_of.Tie as tie
 
 abbrev Inv-loop : tie.InvT-loop
-Inv-loop sheet sizes lanes next values block steps far sum₀ place₀ sum place = (place ≤ sheet .«job_count») × (valueOf sum ≡ sumLeft width (counted sheet) sizes next values (stepped sizes block steps) place)
+Inv-loop sheet sizes lanes next values block steps far sum₀ place₀ sum place =
+    (place ≤ sheet .«job_count») ×
+    (valueOf sum ≡ sumLeft width (counted sheet) sizes next values (stepped sizes block steps) place)
 
 abbrev μ-loop : tie.MeasureT-loop
 μ-loop sheet sizes lanes next values block steps far sum₀ place₀ sum place = sheet .«job_count» - place
@@ -35,7 +37,8 @@ turn c =
     let a = start .args in
     sum-more (counted (a .sheet)) (valueInRow width (a .sizes .largest) (a .values .now) (a .next))
     (afterWith (a .sizes .largest) (a .sizes .bound) (stepped (a .sizes) (a .block) (a .steps))) (l .loop .place) (l .loop .inv .1)
-    (weight-read (start .pre .0) (l .loop .place) (omega (arith, c .before .before .before .before .if1 .taken))) (c .before .before .before .value-on .ensures)
+    (weight-read (start .pre .0) (l .loop .place) (omega (arith, c .before .before .before .before .if1 .taken)))
+    (c .before .before .before .value-on .ensures)
 
 of-requires : tie.Need-of-requires Inv-loop μ-loop
 of-requires c κs = tt
@@ -83,7 +86,8 @@ add-requires c κs =
     let inside = start .pre .1 .within in
     let low = c .before .before .before .before .if1 .taken in
     subst (λ (r : Option ℕ). Below (width .limit) r) (sym (turn c))
-    (start .pre .0 .fits _ (l .loop .place + 1) (number-low (start .pre .0) (a .block) (inside .block-low) (a .steps) inside) (omega (arith, low)))
+    (start .pre .0 .fits _ (l .loop .place + 1) (number-low (start .pre .0) (a .block) (inside .block-low) (a .steps) inside)
+    (omega (arith, low)))
 
 add-place : tie.Need-add-place Inv-loop μ-loop
 add-place c = omega (arith, c .before .before .before .before .before .if1 .taken)
@@ -99,7 +103,8 @@ returns-2 c =
     let l = c .before .before in
     let a = l .before .before .before .before .args in
     let all : l .loop .place ≡ a .sheet .«job_count» = omega (arith, l .loop .inv .0, c .if1 .left) in
-    l .loop .inv .1 ∙ ap (sumLeft width (counted (a .sheet)) (a .sizes) (a .next) (a .values .now) (stepped (a .sizes) (a .block) (a .steps))) all
+    l .loop .inv .1 ∙ ap (sumLeft width (counted (a .sheet)) (a .sizes) (a .next) (a .values .now)
+    (stepped (a .sizes) (a .block) (a .steps))) all
 
 pub sum-of-spec : {M : Type 1} → statement M
 sum-of-spec =

@@ -29,7 +29,9 @@ line c =
 -- what is read of the lane and of the lift comes to the number of the queue with the arrival, which is one
 told : (c : tie.After-line-at) →
     let a = c .before .before .before .args in
-    let number = numberOf (a .sizes .largest) (joined (counted (a .sheet)) (afterWith (a .sizes .largest) (a .sizes .bound) (stepped (a .sizes) (a .block) (a .steps))) (a .place)) in
+    let number = numberOf (a .sizes .largest)
+    (joined (counted (a .sheet)) (afterWith (a .sizes .largest) (a .sizes .bound) (stepped (a .sizes) (a .block) (a .steps)))
+    (a .place)) in
     (number + a .steps * getD (a .lanes .now) (32 + a .place) 0 ≡ getD (a .lanes .now) (c .line-at .result + 3 + a .place) 0 + a .far) ×
     (a .steps * getD (a .lanes .now) (32 + a .place) 0 ≤ 48 * 255) × (number < a .sizes .queues) × (a .sizes .queues ≤ 65535)
 told c =
@@ -38,7 +40,8 @@ told c =
     let given = start .pre .0 in
     let inside = start .pre .1 .within in
     let lane =
-    ap (λ (p : ℕ). getD (a .lanes .now) (p + 3 + a .place) 0) (c .line-at .ensures) ∙ line-lane given (a .block) (inside .block-low) (a .place) (start .pre .2) in
+    ap (λ (p : ℕ). getD (a .lanes .now) (p + 3 + a .place) 0) (c .line-at .ensures) ∙ line-lane given (a .block) (inside .block-low)
+    (a .place) (start .pre .2) in
     let lift = lift-read given (a .place) (start .pre .2) in
     let lifted = ap (λ (x : ℕ). a .steps * x) lift in
     let few : a .steps ≤ 48 = omega (arith, inside .steps-high, most-before-small given) in
@@ -57,8 +60,11 @@ told c =
 
 line-at-requires : tie.Need-line-at-requires
 line-at-requires c κs =
-    let start = c .before .before in
-    (omega arith, omega (arith, in-range (start .pre .0) .jobs-high), omega (arith, start .pre .1 .within .block-low, blocks-few (start .pre .0 .measured)))
+    let start = c .before .before in (
+      omega arith,
+      omega (arith, in-range (start .pre .0) .jobs-high),
+      omega (arith, start .pre .1 .within .block-low, blocks-few (start .pre .0 .measured)),
+    )
 
 add-on : tie.Need-add-on
 add-on c = omega (arith, line c)
@@ -113,7 +119,8 @@ returns c =
     let on = told at in
     c .load .ensures ∙
     ap (λ (n : ℕ). readAt width (a .values .now) (a .next + n)) (omega (arith, on)) ∙
-    sym (value-joined (start .pre .0) (a .block) (start .pre .1 .within .block-low) (a .steps) (start .pre .1 .within) (start .pre .1 .before-end) (a .place) (start .pre .2))
+    sym (value-joined (start .pre .0) (a .block) (start .pre .1 .within .block-low) (a .steps) (start .pre .1 .within)
+    (start .pre .1 .before-end) (a .place) (start .pre .2))
 
 pub value-on-spec : {M : Type 1} → statement M
 value-on-spec =

@@ -65,7 +65,8 @@ loop-again c =
       omega arith,
       put .0 ∙ l .loop .inv .1,
       put .1 (weightAt s) (λ j. liftOf (a .bound) (sizeAt s j) (deadlineAt s j)) (ap (λ (x : Job). x .weight) one)
-          (ap (λ (x : Job). liftOf (a .bound) (x .size) (x .deadline)) one ∙ sym (c .before .before .before .lift-of .ensures)) (l .loop .inv .2),
+          (ap (λ (x : Job). liftOf (a .bound) (x .size) (x .deadline)) one ∙ sym (c .before .before .before .lift-of .ensures))
+          (l .loop .inv .2),
     )
 
 same-length : tie.Need-same-length Inv-loop μ-loop

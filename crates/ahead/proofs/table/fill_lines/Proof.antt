@@ -46,7 +46,8 @@ loop-again c =
       omega (arith, low),
       put .same-length ∙ l .loop .inv .1,
       lines-more 32 (a .sheet .«job_count») (l .loop .block) _
-          (omega (arith, line-before 32 (a .sheet .«job_count») (l .loop .block) (a .sizes .blocks) low (start .pre .3), l .loop .inv .1)) put (l .loop .inv .2),
+          (omega (arith, line-before 32 (a .sheet .«job_count») (l .loop .block) (a .sizes .blocks) low (start .pre .3), l .loop .inv .1))
+          put (l .loop .inv .2),
       λ p h. line-behind 32 (a .sheet .«job_count») (l .loop .block) _ _ put p h ∙ l .loop .inv .3 p h,
     )
 
@@ -58,7 +59,8 @@ returns c =
     let l = c .before .before in
     let a = l .before .before .args in
     let all : l .loop .block ≡ a .sizes .blocks = omega (arith, l .loop .inv .0, c .if1 .left) in (
-      subst (λ (n : ℕ). Lines 32 (a .sheet .«job_count») n (entryLine (a .sizes .largest) (a .sizes .bound) (counted (a .sheet))) (l .loop .lanes)) all (l .loop .inv .2),
+      subst (λ (n : ℕ). Lines 32 (a .sheet .«job_count») n (entryLine (a .sizes .largest) (a .sizes .bound) (counted (a .sheet)))
+          (l .loop .lanes)) all (l .loop .inv .2),
       l .loop .inv .3,
     )
 

@@ -12,7 +12,8 @@ use Rattle.ahead.proofs.table.lane_of.Statement.{statement}
 use Rattle.ahead.proofs.table.lane_of.Tie as tie
 
 -- a queue that is bearable has a number
-numbered : (c : tie.Else1) → Numbered (c .before .before .args .sizes .largest) (c .before .before .args .sizes .bound) (c .before .before .args .queue)
+numbered : (c : tie.Else1) → Numbered (c .before .before .args .sizes .largest) (c .before .before .args .sizes .bound)
+    (c .before .before .args .queue)
 numbered c =
     record {
       ranges = c .before .before .pre .1 .ranges;

@@ -19,7 +19,8 @@ returns c =
 returns-2 : tie.Need-returns-2
 returns-2 c =
     let a = c .before .before .args in
-    sym (ap (λ (b : Bool). cond b (a .one .size) 0) (lt-leb (a .one .deadline) (pred (a .bound)) (omega (arith, c .if1 .left, c .before .before .pre))))
+    sym (ap (λ (b : Bool). cond b (a .one .size) 0)
+    (lt-leb (a .one .deadline) (pred (a .bound)) (omega (arith, c .if1 .left, c .before .before .pre))))
 
 pub lift-of-spec : {M : Type 1} → statement M
 lift-of-spec = tie.close (tie.spec cast-if1 returns returns-2)

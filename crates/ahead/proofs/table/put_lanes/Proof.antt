@@ -57,7 +57,12 @@ cast-lanes : tie.Need-cast-lanes Inv-loop μ-loop
 cast-lanes c = omega arith
 
 add-lanes : tie.Need-add-lanes Inv-loop μ-loop
-add-lanes c = omega (arith, c .before .before .before .before .before .before .good .1 .1 .1 .1 .1 .0 .0, c .before .before .before .before .before .before .pre .4)
+add-lanes c =
+    omega (
+      arith,
+      c .before .before .before .before .before .before .good .1 .1 .1 .1 .1 .0 .0,
+      c .before .before .before .before .before .before .pre .4,
+    )
 
 mul-lanes : tie.Need-mul-lanes Inv-loop μ-loop
 mul-lanes c = omega arith
@@ -82,8 +87,10 @@ loop-again c =
       fills-more 1 numberAt number-local refl
           (c .lane-of .ensures ∙
           ap (laneOf (a .sizes .largest))
-          (joined-in (a .sizes .bound) (a .queue) _ _ (start .pre .1 .ranges .bound-high) (omega (arith, start .pre .1 .ranges .bound-high, six)) (c .before .arrive .ensures) ∙
-          ap (λ (x : Job). arrive w (x .size) (x .deadline)) (sym (job-counts (a .t2) (l .loop .place) (c .before .before .before .loop-test .taken)))))
+          (joined-in (a .sizes .bound) (a .queue) _ _ (start .pre .1 .ranges .bound-high)
+          (omega (arith, start .pre .1 .ranges .bound-high, six)) (c .before .arrive .ensures) ∙
+          ap (λ (x : Job). arrive w (x .size) (x .deadline))
+          (sym (job-counts (a .t2) (l .loop .place) (c .before .before .before .loop-test .taken)))))
           (l .loop .inv .1)
           (number-stored (l .loop .lanes) _ _ (omega (arith, l .loop .inv .1 .same-length, start .pre .4))),
     )

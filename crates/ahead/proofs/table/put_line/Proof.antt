@@ -46,15 +46,19 @@ number-requires : tie.Need-number-requires
 number-requires c κs =
     let start = c .before .before .before .before in
     let m = start .pre .1 in
-    let a = start .args in
-    (start .pre .0, before-numbered (a .sizes .largest) (a .sizes .bound) (a .block) (m .bound-low) (m .ranges) (block start) (c .before .before .first-after .ensures))
+    let a = start .args in (
+      start .pre .0,
+      before-numbered (a .sizes .largest) (a .sizes .bound) (a .block) (m .bound-low) (m .ranges) (block start)
+          (c .before .before .first-after .ensures),
+    )
 
 cast-first : tie.Need-cast-first
 cast-first c =
     let start = c .before .before .before .before .before in
     let m = start .pre .1 in
     let a = start .args in
-    let n = before-numbered (a .sizes .largest) (a .sizes .bound) (a .block) (m .bound-low) (m .ranges) (block start) (c .before .before .before .first-after .ensures) in
+    let n = before-numbered (a .sizes .largest) (a .sizes .bound) (a .block) (m .bound-low) (m .ranges) (block start)
+    (c .before .before .before .first-after .ensures) in
     omega (
       arith,
       number-in-below (a .sizes .largest) (a .sizes .bound - 1) (c .before .before .before .first-after .result) (omega arith) n,
@@ -98,7 +102,12 @@ put-head-requires c κs =
 add-put-lanes : tie.Need-add-put-lanes
 add-put-lanes c =
     let start = c .before .before .before .before .before .before .before .before .before .before .before in
-    omega (arith, c .before .before .before .before .before .before .before .before .line-at .ensures, room start, start .good .1 .1 .1 .1 .0 .0)
+    omega (
+      arith,
+      c .before .before .before .before .before .before .before .before .line-at .ensures,
+      room start,
+      start .good .1 .1 .1 .1 .0 .0,
+    )
 
 put-lanes-requires : tie.Need-put-lanes-requires
 put-lanes-requires c κs =
@@ -108,8 +117,14 @@ put-lanes-requires c κs =
       start .pre .0,
       m,
       start .pre .2,
-      after-small (a .sizes .largest) (a .sizes .bound) (a .block) (m .bound-low) (m .ranges) (block start) (c .before .before .before .before .before .before .before .before .before .before .first-after .ensures),
-      omega (arith, c .before .before .before .before .before .before .before .before .before .line-at .ensures, room start, c .before .before .before .put-head .ensures (λ j. 0) .same-length),
+      after-small (a .sizes .largest) (a .sizes .bound) (a .block) (m .bound-low) (m .ranges) (block start)
+          (c .before .before .before .before .before .before .before .before .before .before .first-after .ensures),
+      omega (
+        arith,
+        c .before .before .before .before .before .before .before .before .before .line-at .ensures,
+        room start,
+        c .before .before .before .put-head .ensures (λ j. 0) .same-length,
+      ),
     )
 
 same-length : tie.Need-same-length
@@ -123,14 +138,18 @@ returns c =
     let m = start .pre .1 in
     let queue = c .before .before .before .before .before .before .before .before .before .before .before .before .before .first-after .ensures in
     let same = after-in (a .sizes .largest) (a .sizes .bound) (a .block) (m .bound-low) (m .ranges) (block start) queue in
-    let head = c .before .before .before .before .before .before .put-head .ensures (λ j. laneOf (a .sizes .largest) (joined s (firstAfter (a .sizes .largest) (a .sizes .bound) (a .block)) j)) in
+    let head = c .before .before .before .before .before .before .put-head .ensures
+    (λ j. laneOf (a .sizes .largest) (joined s (firstAfter (a .sizes .largest) (a .sizes .bound) (a .block)) j)) in
     line-same
     (c .before .before .before .before .before .before .before .before .before .before .number .ensures ∙
-    ap (numberOf (a .sizes .largest)) (before-in (a .sizes .largest) (a .sizes .bound) (a .block) (m .bound-low) (m .ranges) (block start) queue))
+    ap (numberOf (a .sizes .largest))
+    (before-in (a .sizes .largest) (a .sizes .bound) (a .block) (m .bound-low) (m .ranges) (block start) queue))
     (after-lowest (a .sizes .largest) (a .sizes .bound) (a .block) (m .bound-low) (m .ranges) (block start) queue)
-    (c .before .before .before .before .before .before .before .steps .ensures ∙ ap (λ (w : Queue). stepsTo (a .sizes .largest) (a .sizes .bound) s w (s .jobCount)) same)
+    (c .before .before .before .before .before .before .before .steps .ensures ∙
+    ap (λ (w : Queue). stepsTo (a .sizes .largest) (a .sizes .bound) s w (s .jobCount)) same)
     (c .before .before .before .before .before .before .before .before .before .before .before .before .line-at .ensures)
-    (line-stored (c .before .before .before .before .before .before .before .before .before .before .before .before .line-at .result) (a .sheet .«job_count»)
+    (line-stored (c .before .before .before .before .before .before .before .before .before .before .before .before .line-at .result)
+    (a .sheet .«job_count»)
     (λ j h. ap (λ (w : Queue). laneOf (a .sizes .largest) (joined s w j)) same) head (c .before .before .put-lanes .ensures))
 
 pub put-line-spec : {M : Type 1} → statement M

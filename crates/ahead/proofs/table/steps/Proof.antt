@@ -18,7 +18,9 @@ use Rattle.ahead.proofs.table.steps.Statement.{statement}
 use Rattle.ahead.proofs.table.steps.Tie as tie
 
 abbrev Inv-loop : tie.InvT-loop
-Inv-loop sizes queue sheet most least₀ place₀ least place = (place ≤ sheet .«job_count») × (least ≡ stepsTo (sizes .largest) (sizes .bound) (counted sheet) (queueIn (sizes .bound) queue) place)
+Inv-loop sizes queue sheet most least₀ place₀ least place =
+    (place ≤ sheet .«job_count») ×
+    (least ≡ stepsTo (sizes .largest) (sizes .bound) (counted sheet) (queueIn (sizes .bound) queue) place)
 
 abbrev μ-loop : tie.MeasureT-loop
 μ-loop sizes queue sheet most least₀ place₀ least place = sheet .«job_count» - place
@@ -111,8 +113,10 @@ loop-again c =
       steps-more (a .sizes .largest) (a .sizes .bound) (counted (a .t1)) w (l .loop .place) (l .loop .inv .1)
           (c .before .steps-of .ensures ∙
           ap (stepsOf (a .sizes .largest) (a .sizes .bound))
-          (joined-in (a .sizes .bound) (a .queue) _ _ (start .pre .0 .ranges .bound-high) (omega (arith, start .pre .0 .ranges .bound-high, six)) (c .before .before .arrive .ensures) ∙
-          ap (λ (x : Job). arrive w (x .size) (x .deadline)) (sym (job-counts (a .t1) (l .loop .place) (c .before .before .before .before .loop-test .taken)))))
+          (joined-in (a .sizes .bound) (a .queue) _ _ (start .pre .0 .ranges .bound-high)
+          (omega (arith, start .pre .0 .ranges .bound-high, six)) (c .before .before .arrive .ensures) ∙
+          ap (λ (x : Job). arrive w (x .size) (x .deadline))
+          (sym (job-counts (a .t1) (l .loop .place) (c .before .before .before .before .loop-test .taken)))))
           (c .smaller .ensures),
     )
 

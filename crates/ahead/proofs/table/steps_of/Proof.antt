@@ -42,7 +42,8 @@ returns c =
     let w = queueIn (a .sizes .bound) (a .queue) in
     let M = a .sizes .largest in
     let D = a .sizes .bound in
-    sym (ap (λ (b : Bool). cond b (suc (min (pred D * M - total w (pred D)) (D * M - total w D))) 0) (failed-by (c .before .finishable .ensures) (c .if1 .taken)))
+    sym (ap (λ (b : Bool). cond b (suc (min (pred D * M - total w (pred D)) (D * M - total w D))) 0)
+    (failed-by (c .before .finishable .ensures) (c .if1 .taken)))
 
 cast-most : tie.Need-cast-most
 cast-most c = search needs
@@ -65,7 +66,13 @@ sub-before-2 : tie.Need-sub-before-2
 sub-before-2 c =
     let known = c .before .before .before .before in
     let start = known .before .before .before in
-    omega (arith, c .total .ensures, held known .1, most-fewer (start .args .sizes .largest) (start .args .sizes .bound) (start .pre .bound-low))
+    omega (
+      arith,
+      c .total .ensures,
+      held known .1,
+      most-fewer (start .args .sizes .largest) (start .args .sizes .bound)
+          (start .pre .bound-low),
+    )
 
 total-requires-2 : tie.Need-total-requires-2
 total-requires-2 c κs = search needs

@@ -21,7 +21,8 @@ Inv-loop sheet sizes scale lanes ahead block last best₀ place₀ best place =
     (slowestIn (sizes .largest) (sizes .bound) (counted sheet) (firstOf (sizes .largest) (sizes .bound) block) ≤ place) ×
     (place ≤ sheet .«speed_count») ×
     IsChoice (leastTo (speedAt (counted sheet)) (costAt width (sizes .largest) (sizes .bound) (counted sheet) ahead (valueOf scale)
-    (queueWith (sizes .largest) (sizes .bound) (numberIn (sizes .largest) (sizes .bound) block last))) place) (best .speed) (valueOf (best .value))
+    (queueWith (sizes .largest) (sizes .bound) (numberIn (sizes .largest) (sizes .bound) block last))) place) (best .speed)
+    (valueOf (best .value))
 
 abbrev μ-loop : tie.MeasureT-loop
 μ-loop sheet sizes scale lanes ahead block last best₀ place₀ best place = sheet .«speed_count» - place
@@ -47,8 +48,11 @@ none-requires c κs = tt
 
 line-at-requires : tie.Need-line-at-requires Inv-loop μ-loop
 line-at-requires c κs =
-    let start = c .before .before .before in
-    (omega arith, omega (arith, in-range (start .pre .0) .speeds-high), omega (arith, start .pre .1 .block-low, after-room (start .pre .0 .measured)))
+    let start = c .before .before .before in (
+      omega arith,
+      omega (arith, in-range (start .pre .0) .speeds-high),
+      omega (arith, start .pre .1 .block-low, after-room (start .pre .0 .measured)),
+    )
 
 add-place : tie.Need-add-place Inv-loop μ-loop
 add-place c = omega (arith, line c)
@@ -69,7 +73,13 @@ loop-holds c =
     let s = counted (a .sheet) in
     let from = began c in (
       omega (arith, from),
-      omega (arith, from, first-within (λ j. leadsOn (a .sizes .largest) (a .sizes .bound) (firstOf (a .sizes .largest) (a .sizes .bound) (a .block)) (speedAt s j)) (s .speedCount)),
+      omega (
+        arith,
+        from,
+        first-within
+            (λ j. leadsOn (a .sizes .largest) (a .sizes .bound) (firstOf (a .sizes .largest) (a .sizes .bound) (a .block)) (speedAt s j))
+            (s .speedCount),
+      ),
       least-begun (speedAt s) _ _
           (λ j h. slower-none (start .pre .0) (a .block) (start .pre .1 .block-low) (a .last) (start .pre .1) j (omega (arith, from)))
           (c .before .before .none .ensures),

@@ -42,10 +42,12 @@ there : (c : tie.After-shared-slice-known5) →
     let a = c .before .before .before .before .before .before .before .before .before .before .before .args in
     let w = firstOf (a .sizes .largest) (a .sizes .bound) (a .block) in
     let s = counted (a .sheet) in
-    (getD (a .lanes .now) (c .before .before .before .before .before .before .before .before .line-at .result + 3 + a .place) 0 + c .before .above .result ≡
+    (getD (a .lanes .now) (c .before .before .before .before .before .before .before .before .line-at .result + 3 + a .place) 0 +
+    c .before .above .result ≡
     laneOf (a .sizes .largest) (a .sizes .bound) w (speedAt s (a .place)) +
     (a .last - max (speedAt s (a .place)) (lowestOf (a .sizes .largest) (a .sizes .bound) (a .block)))) ×
-    (getD (a .lanes .now) (c .before .before .before .before .before .before .before .before .line-at .result + 3 + a .place) 0 + c .before .above .result <
+    (getD (a .lanes .now) (c .before .before .before .before .before .before .before .before .line-at .result + 3 + a .place) 0 +
+    c .before .above .result <
     a .sizes .after)
 there c =
     let start = c .before .before .before .before .before .before .before .before .before .before .before in
@@ -57,7 +59,9 @@ there c =
     ap (λ (p : ℕ). getD (a .lanes .now) (p + 3 + a .place) 0) at ∙ line-lane given (a .block) (inside .block-low) (a .place) (start .pre .3) in
     let lowest = ap (λ (p : ℕ). getD (a .lanes .now) (p + 1) 0) at ∙ line-lowest given (a .block) (inside .block-low) in
     let speed = speed-read given (a .place) (start .pre .3) in
-    let from = c .before .before .larger .ensures ∙ ap (λ (x : ℕ). max x (getD (a .lanes .now) (c .before .before .before .before .before .before .before .before .line-at .result + 1) 0)) speed ∙ ap (max (speedAt (counted (a .sheet)) (a .place))) lowest in
+    let from = c .before .before .larger .ensures ∙
+    ap (λ (x : ℕ). max x (getD (a .lanes .now) (c .before .before .before .before .before .before .before .before .line-at .result + 1) 0))
+    speed ∙ ap (max (speedAt (counted (a .sheet)) (a .place))) lowest in
     let low =
     found-low given (a .block) (inside .block-low) (a .last) inside (a .place) (start .pre .2) (start .pre .3)
     (omega (arith, c .before .before .before .before .if1 .left, most-before given, speed)) in
@@ -79,12 +83,21 @@ told c =
     (c .before .load .ensures ∙ ap (readAt width (a .ahead .now)) (there (c .before .before) .0)) ∙
     sym
     (cost-there given (a .block) (inside .block-low) (a .last) inside (a .place) (start .pre .2) (start .pre .3)
-    (omega (arith, c .before .before .before .before .before .before .if1 .left, most-before given, speed-read given (a .place) (start .pre .3))))
+    (omega (
+      arith,
+      c .before .before .before .before .before .before .if1 .left,
+      most-before given,
+      speed-read given (a .place)
+          (start .pre .3),
+    )))
 
 line-at-requires : tie.Need-line-at-requires
 line-at-requires c κs =
-    let start = c .before .before in
-    (omega arith, omega (arith, in-range (start .pre .0) .speeds-high), omega (arith, start .pre .1 .block-low, after-room (start .pre .0 .measured)))
+    let start = c .before .before in (
+      omega arith,
+      omega (arith, in-range (start .pre .0) .speeds-high),
+      omega (arith, start .pre .1 .block-low, after-room (start .pre .0 .measured)),
+    )
 
 mul-speed : tie.Need-mul-speed
 mul-speed c = search needs
@@ -185,7 +198,8 @@ add-requires c κs =
     let start = c .before .before .before .before .before .before .before .before .before .before .before .before .before in
     let a = start .args in
     subst (λ (r : Option ℕ). Below (width .limit) r) (sym (told c))
-    (start .pre .0 .fits _ (a .place) (number-low (start .pre .0) (a .block) (start .pre .1 .block-low) (a .last) (start .pre .1)) (start .pre .3))
+    (start .pre .0 .fits _ (a .place) (number-low (start .pre .0) (a .block) (start .pre .1 .block-low) (a .last) (start .pre .1))
+    (start .pre .3))
 
 returns-2 : tie.Need-returns-2
 returns-2 c = c .add .ensures ∙ told (c .before)

@@ -13,15 +13,19 @@ use Rattle.choose.proofs.row.fill.Tie as tie
 abbrev Inv-loop : tie.InvT-loop
 Inv-loop sheet sizes scale lanes ahead this row values₀ plan₀ block₀ values plan block =
     (block ≤ sizes .after) ×
-    LeftWhere width (counted sheet) sizes (valueOf scale) ahead this row (InBlocks (sizes .largest) (sizes .bound) block) values₀ plan₀ values plan
+    LeftWhere width (counted sheet) sizes (valueOf scale) ahead this row (InBlocks (sizes .largest) (sizes .bound) block) values₀ plan₀
+    values plan
 
 abbrev μ-loop : tie.MeasureT-loop
 μ-loop sheet sizes scale lanes ahead this row values₀ plan₀ block₀ values plan block = sizes .after - block
 
 loop-holds : tie.Need-loop-holds Inv-loop μ-loop
 loop-holds c =
-    let a = c .before .before .before .before .args in
-    (omega arith, left-begun width (counted (a .sheet)) (a .sizes) (valueOf (a .scale)) (a .ahead .now) (a .this) (a .row) (a .values .now) (a .plan .now))
+    let a = c .before .before .before .before .args in (
+      omega arith,
+      left-begun width (counted (a .sheet)) (a .sizes) (valueOf (a .scale)) (a .ahead .now) (a .this) (a .row) (a .values .now)
+          (a .plan .now),
+    )
 
 fill-block-requires : tie.Need-fill-block-requires Inv-loop μ-loop
 fill-block-requires c κs =
@@ -47,7 +51,8 @@ loop-again c =
     let taken = c .before .before .before .before .before .before .before .if1 .taken in (
       omega (arith, taken),
       left-block width (counted (a .sheet)) (a .sizes) (valueOf (a .scale)) (a .ahead .now) (a .this) (a .row) (l .loop .block)
-          (block-low (start .pre .0) (l .loop .block) taken) _ (le-refl _) (l .loop .inv .1) (c .before .before .before .before .fill-block .ensures),
+          (block-low (start .pre .0) (l .loop .block) taken) _ (le-refl _) (l .loop .inv .1)
+          (c .before .before .before .before .fill-block .ensures),
     )
 
 same-length : tie.Need-same-length Inv-loop μ-loop
@@ -61,7 +66,8 @@ returns c =
     let l = c .before .before in
     let start = l .before .before .before .before .before in
     let a = start .args in
-    left-whole width (counted (a .sheet)) (a .sizes) (valueOf (a .scale)) (a .ahead .now) (a .this) (a .row) (start .pre .0 .measured) (l .loop .block)
+    left-whole width (counted (a .sheet)) (a .sizes) (valueOf (a .scale)) (a .ahead .now) (a .this) (a .row) (start .pre .0 .measured)
+    (l .loop .block)
     (omega (arith, l .loop .inv .0, c .if1 .left)) (l .loop .inv .1)
 
 pub fill-spec : {M : Type 1} → statement M

@@ -52,8 +52,11 @@ low c =
 
 line-at-requires : tie.Need-line-at-requires
 line-at-requires c κs =
-    let start = c .before .before .before .before in
-    (omega arith, omega (arith, in-range (start .pre .0) .speeds-high), omega (arith, start .pre .1 .block-low, after-room (start .pre .0 .measured)))
+    let start = c .before .before .before .before in (
+      omega arith,
+      omega (arith, in-range (start .pre .0) .speeds-high),
+      omega (arith, start .pre .1 .block-low, after-room (start .pre .0 .measured)),
+    )
 
 mul-number : tie.Need-mul-number
 mul-number c = omega (arith, line c)
@@ -96,15 +99,31 @@ store-requires c κs =
     fewer-fit width (omega (arith, low (c .before .before .before .before))) (start .pre .2)
 
 cast-plan : tie.Need-cast-plan
-cast-plan c = omega (arith, byte-fits (c .before .before .before .before .before .before .before .before .before .before .before .before .before .pre .0) _ (c .before .before .before .before .before .choose .ensures))
+cast-plan c =
+    omega (
+      arith,
+      byte-fits
+          (c .before .before .before .before .before .before .before .before .before .before .before .before .before .pre .0) _
+          (c .before .before .before .before .before .choose .ensures),
+    )
 
 add-plan : tie.Need-add-plan
 add-plan c =
     let start = c .before .before .before .before .before .before .before .before .before .before .before .before .before in
-    omega (arith, low (c .before .before .before .before .before .before .before .before), start .pre .3, start .good .1 .1 .1 .1 .1 .1 .1 .1 .1 .1 .0 .0)
+    omega (
+      arith,
+      low (c .before .before .before .before .before .before .before .before),
+      start .pre .3,
+      start .good .1 .1 .1 .1 .1 .1 .1 .1 .1 .1 .0 .0,
+    )
 
 slice-write-plan : tie.Need-slice-write-plan
-slice-write-plan c = omega (arith, low (c .before .before .before .before .before .before .before .before), c .before .before .before .before .before .before .before .before .before .before .before .before .before .pre .3)
+slice-write-plan c =
+    omega (
+      arith,
+      low (c .before .before .before .before .before .before .before .before),
+      c .before .before .before .before .before .before .before .before .before .before .before .before .before .pre .3,
+    )
 
 same-length : tie.Need-same-length
 same-length c = search needs
@@ -118,7 +137,8 @@ returns c =
     let a = start .args in
     let at = c .before .before .before .before .before .before .before .before in
     left-stored width (counted (a .sheet)) (a .sizes) (valueOf (a .scale)) (a .ahead .now) (a .this) (a .row) (number at)
-    (c .before .before .before .before .before .choose .ensures) (c .before .before .before .store .ensures) (omega (arith, low at, start .pre .3))
+    (c .before .before .before .before .before .choose .ensures) (c .before .before .before .store .ensures)
+    (omega (arith, low at, start .pre .3))
 
 pub fill-queue-spec : {M : Type 1} → statement M
 fill-queue-spec =

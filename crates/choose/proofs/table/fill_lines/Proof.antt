@@ -45,7 +45,9 @@ loop-again c =
     let put = c .before .before .put-line .ensures in (
       omega (arith, low),
       put .same-length ∙ l .loop .inv .1,
-      lines-more 9 (a .sheet .«speed_count») (l .loop .block) _ (omega (arith, line-before 9 (a .sheet .«speed_count») (l .loop .block) (a .sizes .after) low (start .pre .3), l .loop .inv .1)) put (l .loop .inv .2),
+      lines-more 9 (a .sheet .«speed_count») (l .loop .block) _
+          (omega (arith, line-before 9 (a .sheet .«speed_count») (l .loop .block) (a .sizes .after) low (start .pre .3), l .loop .inv .1))
+          put (l .loop .inv .2),
       λ p h. line-behind 9 (a .sheet .«speed_count») (l .loop .block) _ _ put p h ∙ l .loop .inv .3 p h,
     )
 
@@ -57,7 +59,8 @@ returns c =
     let l = c .before .before in
     let a = l .before .before .args in
     let all : l .loop .block ≡ a .sizes .after = omega (arith, l .loop .inv .0, c .if1 .left) in (
-      subst (λ (n : ℕ). Lines 9 (a .sheet .«speed_count») n (speedLine (a .sizes .largest) (a .sizes .bound) (counted (a .sheet))) (l .loop .lanes)) all (l .loop .inv .2),
+      subst (λ (n : ℕ). Lines 9 (a .sheet .«speed_count») n (speedLine (a .sizes .largest) (a .sizes .bound) (counted (a .sheet)))
+          (l .loop .lanes)) all (l .loop .inv .2),
       l .loop .inv .3,
     )
 

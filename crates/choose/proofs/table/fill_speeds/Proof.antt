@@ -59,7 +59,8 @@ loop-again c =
     let put = c .before .before .put-pair .ensures in (
       omega arith,
       put .0 ∙ l .loop .inv .1,
-      put .1 (speedAt (counted (a .t1))) (energyAt (counted (a .t1))) (ap (λ (x : Speed). x .speed) one) (ap (λ (x : Speed). x .energy) one) (l .loop .inv .2),
+      put .1 (speedAt (counted (a .t1))) (energyAt (counted (a .t1))) (ap (λ (x : Speed). x .speed) one) (ap (λ (x : Speed). x .energy) one)
+          (l .loop .inv .2),
     )
 
 same-length : tie.Need-same-length Inv-loop μ-loop

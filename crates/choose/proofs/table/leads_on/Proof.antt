@@ -35,7 +35,8 @@ returns-2 c =
     let m = start .pre in
     c .finishable .ensures ∙
     ap (λ (q : Queue). bearable (a .sizes .largest) q)
-    (after-places (a .sizes .bound) (a .t2) (a .speed) (m .bound-low) (m .ranges .bound-high) (omega arith) (c .before .before .after .ensures)) ∙
+    (after-places (a .sizes .bound) (a .t2) (a .speed) (m .bound-low) (m .ranges .bound-high) (omega arith)
+    (c .before .before .after .ensures)) ∙
     sym
     (leads-fast (a .sizes .largest) (a .sizes .bound) (queueIn (a .sizes .bound) (a .t2)) (a .speed)
     (omega (arith, total-in (a .sizes .bound) (a .t2) 1 (m .bound-low), c .before .before .before .if1 .left)))

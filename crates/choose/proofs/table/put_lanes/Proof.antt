@@ -16,7 +16,8 @@ use Rattle.choose.proofs.table.put_lanes.Tie as tie
 abbrev Inv-loop : tie.InvT-loop
 Inv-loop counts sizes queue at lanes₀ sheet place₀ lanes place =
     (place ≤ sheet .«speed_count») ×
-    Fills 1 numberAt (λ j. laneOf (sizes .largest) (sizes .bound) (queueIn (sizes .bound) queue) (speedAt (counted sheet) j)) at place lanes₀ lanes
+    Fills 1 numberAt (λ j. laneOf (sizes .largest) (sizes .bound) (queueIn (sizes .bound) queue) (speedAt (counted sheet) j)) at place
+    lanes₀ lanes
 
 abbrev μ-loop : tie.MeasureT-loop
 μ-loop counts sizes queue at lanes₀ sheet place₀ lanes place = sheet .«speed_count» - place
@@ -44,7 +45,12 @@ cast-lanes : tie.Need-cast-lanes Inv-loop μ-loop
 cast-lanes c = omega arith
 
 add-lanes : tie.Need-add-lanes Inv-loop μ-loop
-add-lanes c = omega (arith, c .before .before .before .before .before .good .1 .1 .1 .1 .1 .0 .0, c .before .before .before .before .before .pre .3)
+add-lanes c =
+    omega (
+      arith,
+      c .before .before .before .before .before .good .1 .1 .1 .1 .1 .0 .0,
+      c .before .before .before .before .before .pre .3,
+    )
 
 mul-lanes : tie.Need-mul-lanes Inv-loop μ-loop
 mul-lanes c = omega arith

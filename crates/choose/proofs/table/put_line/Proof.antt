@@ -42,15 +42,19 @@ number-requires : tie.Need-number-requires
 number-requires c κs =
     let start = c .before .before .before in
     let m = start .pre .1 in
-    let a = start .args in
-    (start .pre .0, first-numbered (a .sizes .largest) (a .sizes .bound) (a .block) (m .bound-low) (m .ranges) (block start) (c .before .first-queue .ensures))
+    let a = start .args in (
+      start .pre .0,
+      first-numbered (a .sizes .largest) (a .sizes .bound) (a .block) (m .bound-low) (m .ranges) (block start)
+          (c .before .first-queue .ensures),
+    )
 
 cast-first : tie.Need-cast-first
 cast-first c =
     let start = c .before .before .before .before in
     let m = start .pre .1 in
     let a = start .args in
-    let n = first-numbered (a .sizes .largest) (a .sizes .bound) (a .block) (m .bound-low) (m .ranges) (block start) (c .before .before .first-queue .ensures) in
+    let n = first-numbered (a .sizes .largest) (a .sizes .bound) (a .block) (m .bound-low) (m .ranges) (block start)
+    (c .before .before .first-queue .ensures) in
     omega (
       arith,
       number-in-below (a .sizes .largest) (a .sizes .bound) (c .before .before .first-queue .result) (omega arith) n,
@@ -87,7 +91,12 @@ put-lanes-requires c κs =
       start .pre .0,
       start .pre .1,
       start .pre .2,
-      omega (arith, c .before .before .before .before .before .before .before .before .line-at .ensures, room start, c .before .before .before .put-head .ensures (λ j. 0) .same-length),
+      omega (
+        arith,
+        c .before .before .before .before .before .before .before .before .line-at .ensures,
+        room start,
+        c .before .before .before .put-head .ensures (λ j. 0) .same-length,
+      ),
     )
 
 same-length : tie.Need-same-length
@@ -101,13 +110,16 @@ returns c =
     let m = start .pre .1 in
     let queue = c .before .before .before .before .before .before .before .before .before .before .before .before .first-queue .ensures in
     let same = first-in (a .sizes .largest) (a .sizes .bound) (a .block) (m .bound-low) (m .ranges) (block start) queue in
-    let head = c .before .before .before .before .before .before .put-head .ensures (λ j. laneOf (a .sizes .largest) (a .sizes .bound) (firstOf (a .sizes .largest) (a .sizes .bound) (a .block)) (speedAt s j)) in
+    let head = c .before .before .before .before .before .before .put-head .ensures
+    (λ j. laneOf (a .sizes .largest) (a .sizes .bound) (firstOf (a .sizes .largest) (a .sizes .bound) (a .block)) (speedAt s j)) in
     line-same
-    (c .before .before .before .before .before .before .before .before .before .before .number .ensures ∙ ap (numberOf (a .sizes .largest)) same)
+    (c .before .before .before .before .before .before .before .before .before .before .number .ensures ∙ ap (numberOf (a .sizes .largest))
+    same)
     (lowest-in (a .sizes .largest) (a .sizes .bound) (a .block) (m .bound-low) (m .ranges) (block start) queue)
     (c .before .before .before .before .before .before .before .slowest .ensures ∙ ap (slowestIn (a .sizes .largest) (a .sizes .bound) s) same)
     (c .before .before .before .before .before .before .before .before .before .before .before .line-at .ensures)
-    (line-stored (c .before .before .before .before .before .before .before .before .before .before .before .line-at .result) (a .sheet .«speed_count»)
+    (line-stored (c .before .before .before .before .before .before .before .before .before .before .before .line-at .result)
+    (a .sheet .«speed_count»)
     (λ j h. ap (λ (w : Queue). laneOf (a .sizes .largest) (a .sizes .bound) w (speedAt s j)) same) head (c .before .before .put-lanes .ensures))
 
 pub put-line-spec : {M : Type 1} → statement M

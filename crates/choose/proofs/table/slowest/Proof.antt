@@ -35,7 +35,8 @@ none test = refl
 asked : (c : tie.After-leads-on Inv-loop μ-loop) →
     let l = c .before .before .before in
     let a = l .before .args in
-    leadsOn (a .sizes .largest) (a .sizes .bound) (queueIn (a .sizes .bound) (a .queue)) (speedAt (counted (a .t1)) (l .loop .place)) ≡ c .leads-on .result
+    leadsOn (a .sizes .largest) (a .sizes .bound) (queueIn (a .sizes .bound) (a .queue)) (speedAt (counted (a .t1)) (l .loop .place)) ≡
+    c .leads-on .result
 asked c =
     let l = c .before .before .before in
     let a = l .before .args in
@@ -64,7 +65,8 @@ returns c =
     let start = l .before in
     let a = start .args in
     sym
-    (first-found (λ j. leadsOn (a .sizes .largest) (a .sizes .bound) (queueIn (a .sizes .bound) (a .queue)) (speedAt (counted (a .t1)) j)) (l .loop .place)
+    (first-found (λ j. leadsOn (a .sizes .largest) (a .sizes .bound) (queueIn (a .sizes .bound) (a .queue)) (speedAt (counted (a .t1)) j))
+    (l .loop .place)
     (a .t1 .«speed_count») (l .loop .inv .1) (asked (c .before) ∙ c .if1 .taken) (c .before .before .before .loop-test .taken))
 
 add-place : tie.Need-add-place Inv-loop μ-loop
@@ -78,7 +80,8 @@ loop-again c =
     let l = c .before .before .before .before in
     let a = l .before .args in (
       omega arith,
-      first-more (λ j. leadsOn (a .sizes .largest) (a .sizes .bound) (queueIn (a .sizes .bound) (a .queue)) (speedAt (counted (a .t1)) j)) (l .loop .place)
+      first-more (λ j. leadsOn (a .sizes .largest) (a .sizes .bound) (queueIn (a .sizes .bound) (a .queue)) (speedAt (counted (a .t1)) j))
+          (l .loop .place)
           (l .loop .inv .1) (asked (c .before) ∙ c .if1 .left),
     )
 
@@ -88,7 +91,8 @@ returns-2 c =
     let a = c .before .before .args in
     let all : l .place ≡ a .t1 .«speed_count» = omega arith in
     sym (l .inv .1) ∙
-    ap (firstPlace (λ j. leadsOn (a .sizes .largest) (a .sizes .bound) (queueIn (a .sizes .bound) (a .queue)) (speedAt (counted (a .t1)) j))) all
+    ap (firstPlace (λ j. leadsOn (a .sizes .largest) (a .sizes .bound) (queueIn (a .sizes .bound) (a .queue))
+    (speedAt (counted (a .t1)) j))) all
 
 pub slowest-spec : {M : Type 1} → statement M
 slowest-spec =

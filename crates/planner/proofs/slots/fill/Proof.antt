@@ -62,10 +62,14 @@ fill-end-requires c κs =
     (placed .place .ensures) (start .args .values .now) (start .pre .2)
 
 slice-aggregate-fill-slots : tie.Need-slice-aggregate-fill-slots
-slice-aggregate-fill-slots c = sym (c .before .before .before .before .before .before .before .before .before .before .before .before .fill-table .kept .1 .1 .1 .0)
+slice-aggregate-fill-slots c =
+    sym
+    (c .before .before .before .before .before .before .before .before .before .before .before .before .fill-table .kept .1 .1 .1 .0)
 
 slice-aggregate-fill-slots-2 : tie.Need-slice-aggregate-fill-slots-2
-slice-aggregate-fill-slots-2 c = sym (c .before .before .before .before .before .before .before .before .before .before .fill-table2 .kept .1 .1 .1 .0)
+slice-aggregate-fill-slots-2 c =
+    sym
+    (c .before .before .before .before .before .before .before .before .before .before .fill-table2 .kept .1 .1 .1 .0)
 
 fill-slots-requires : tie.Need-fill-slots-requires
 fill-slots-requires c κs =

@@ -68,7 +68,8 @@ stands c =
     let turn = c .before .before .before .before .before in
     let start = turn .before .before .before .before .before .before .before in
     let made = c .slot-with .ensures in
-    slot-stands (sheetIn turn) (turn .loop .left) (start .pre .0 .0 .sized .queues-is) (c .before .before .before .if1 .taken) (made .0) (made .2)
+    slot-stands (sheetIn turn) (turn .loop .left) (start .pre .0 .0 .sized .queues-is) (c .before .before .before .if1 .taken) (made .0)
+    (made .2)
     (made .3) (made .4)
 
 -- and its scale is right
@@ -94,7 +95,11 @@ fill-slot-requires c κs =
     let sized = start .pre .0 .0 .sized in
     let past = turn .loop .inv .3 in (
       (
-        record { prepared = start .pre .0 .0; in-plan = slot-in-plan s k at (ap valueOf (made .slot-with .ensures .1) ∙ scaled (made .before)) },
+        record {
+          prepared = start .pre .0 .0;
+          in-plan = slot-in-plan s k at
+              (ap valueOf (made .slot-with .ensures .1) ∙ scaled (made .before));
+        },
         next-stands width s k at past (start .pre .0 .2),
         omega (arith, after-room (measured s _ (accepted s (start .pre .0 .0 .accepted)) sized), turn .loop .inv .1),
         omega (arith, values-room width s k at past (start .pre .0 .2), sized .queues-is),
@@ -107,7 +112,12 @@ add-left : tie.Need-add-left Inv-loop μ-loop
 add-left c =
     let turn = c .before .before .before .before .before .before .before .before .before .before .before .before .before .before in
     let start = turn .before .before .before .before .before .before .before in
-    omega (arith, c .before .before .before .before .before .before .before .before .before .before .before .before .if1 .taken, sizes-small (sheetIn turn) (start .pre .0 .0 .accepted) (start .pre .0 .0 .sized) .1)
+    omega (
+      arith,
+      c .before .before .before .before .before .before .before .before .before .before .before .before .if1 .taken,
+      sizes-small
+          (sheetIn turn) (start .pre .0 .0 .accepted) (start .pre .0 .0 .sized) .1,
+    )
 
 loop-less : tie.Need-loop-less Inv-loop μ-loop
 loop-less c = omega arith

@@ -55,11 +55,13 @@ returns c =
       bound-is = refl;
       queues-is = c .before .before .before .queue-count .ensures ∙ ap (λ (m : ℕ). queueCount m (s .bound)) most ∙ sym (N-is s);
       after-is =
-          c .before .before .queue-count2 .ensures ∙ ap (queueCount (c .before .before .before .before .before .before .greatest-of .result .speed)) fewer ∙
+          c .before .before .queue-count2 .ensures ∙
+          ap (queueCount (c .before .before .before .before .before .before .greatest-of .result .speed)) fewer ∙
           ap (λ (m : ℕ). queueCount m (pred (s .bound))) most;
       blocks-is =
           c .queue-count3 .ensures ∙
-          ap (queueCount (c .before .before .before .before .before .before .greatest-of .result .speed)) (c .before .one-fewer2 .ensures ∙ ap pred fewer) ∙
+          ap (queueCount (c .before .before .before .before .before .before .greatest-of .result .speed))
+          (c .before .one-fewer2 .ensures ∙ ap pred fewer) ∙
           ap (λ (m : ℕ). queueCount m (pred (pred (s .bound)))) most;
     }
 
