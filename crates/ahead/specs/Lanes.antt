@@ -41,7 +41,7 @@ entryLine M D s b =
     lineOf (startOf M (pred D) b) (lowestOf M (pred D) b) (stepsTo M D s (firstAfter M D b) (s .jobCount))
     (λ j. laneOf M (joined s (firstAfter M D b) j))
 
--- the table: the weights of the entries and how much each lifts, and a line for each block
+-- the table: the weights of the entries, of which a sheet has at most 32, and how much each lifts, and a line for each block
 abbrev pub EntryTable : ℕ → ℕ → Counted → List ℕ → Type 0
 EntryTable M D s l =
     Table 32 (s .jobCount) (queueCount M (pred (pred D))) (weightAt s) (λ j. liftOf D (sizeAt s j) (deadlineAt s j)) (entryLine M D s) l

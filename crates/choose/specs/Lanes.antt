@@ -33,7 +33,7 @@ abbrev pub speedLine : ℕ → ℕ → Counted → ℕ → ℕ → ℕ
 speedLine M D s b =
     lineOf (startOf M D b) (lowestOf M D b) (slowestIn M D s (firstOf M D b)) (λ j. laneOf M D (firstOf M D b) (speedAt s j))
 
--- the table: the speeds and their energies, and a line for each block
+-- the table: the speeds and their energies, of which a sheet has at most nine, and a line for each block
 abbrev pub SpeedTable : ℕ → ℕ → Counted → List ℕ → Type 0
 SpeedTable M D s l = Table 9 (s .speedCount) (queueCount M (pred D)) (speedAt s) (energyAt s) (speedLine M D s) l
 

@@ -130,8 +130,8 @@ fn fill_slot(
     fill_row(counts, sheet, sizes, slot, ahead, values, plan, speed_lanes);
 }
 
-// Every slot, the last one first. What is ahead stands in an array of its own, for at most 7,084 queues after a slot where there are at
-// most 65,535 queues; so a slot's row could be written over the next slot's.
+// Every slot, the last one first. What is ahead stands in an array of its own, at one place for each of at most 7,084 queues after a slot
+// where there are at most 65,535 queues; so a slot's row could be written over the next slot's.
 fn fill_slots(
     counts: &[u32; 2352],
     sheet: Sheet,
@@ -149,7 +149,6 @@ fn fill_slots(
     ensures { λ r. ⌜ PlannedFrom width (counted sheet) (sheet .horizon)
         (now (values .entry)) (now (plan .entry)) (now (values .exit)) (now (plan .exit)) ⌝ }
 {
-    // 7,084 values, at one place each
     let mut ahead = [0; 7084];
     let weight_sum = weights(sheet);
     let mut scale = value::of(1);
