@@ -13,8 +13,8 @@ use rows::line_at;
 use rows::put_head;
 use rows::put_pair;
 ghost use mathlib.Core.Path.{_≡_};
-ghost use Prim.Native.Nat.{ℕ, pred, min, _+_, _*_, _≤_, _<_};
-ghost use lib.ListN.{length, getD};
+ghost use Prim.Native.Nat.{pred, min, _+_, _*_, _≤_, _<_};
+ghost use lib.ListN.{length};
 ghost use Rattle.model.specs.Counted.{counted, weightAt, sizeAt, deadlineAt};
 ghost use Rattle.model.specs.Queue.{total, queueIn, placesOf};
 ghost use Rattle.model.specs.Refusal.{fieldsRefusal};
@@ -22,7 +22,7 @@ ghost use Rattle.queues.specs.Counts.{HoldsCounts};
 ghost use Rattle.queues.specs.Slot.{Small};
 ghost use Rattle.value.specs.Fills.{Fills, numberAt};
 ghost use Rattle.rows.specs.Sizes.{Measured};
-ghost use Rattle.rows.specs.Tables.{lineAt, Columns, Lines};
+ghost use Rattle.rows.specs.Tables.{lineAt, Columns, LinesPut};
 ghost use Rattle.ahead.specs.Lanes.{firstAfter, liftOf, stepsOf, stepsTo, laneOf, entryLine, EntryTable};
 ghost use Rattle.ahead.specs.Sums.{joined};
 
@@ -147,9 +147,8 @@ fn put_line(counts: &[u32; 2352], sheet: Sheet, sizes: Sizes, block: usize, lane
 fn fill_lines(counts: &[u32; 2352], sheet: Sheet, sizes: Sizes, lanes: &mut [u32])
     requires { ⌜ HoldsCounts (now counts) × Measured sizes × (fieldsRefusal (counted sheet) ≡ 0) ×
         (lineAt 32 (sheet .«job_count») (sizes .blocks) ≤ length (now lanes)) ⌝ }
-    ensures { λ r. ⌜ Lines 32 (sheet .«job_count») (sizes .blocks) (entryLine (sizes .largest) (sizes .bound) (counted sheet))
-        (now (lanes .exit)) ×
-        ((p : ℕ) → p < 64 → getD (now (lanes .exit)) p 0 ≡ getD (now (lanes .entry)) p 0) ⌝ }
+    ensures { λ r. ⌜ LinesPut 32 (sheet .«job_count») (sizes .blocks) (entryLine (sizes .largest) (sizes .bound) (counted sheet))
+        (now (lanes .entry)) (now (lanes .exit)) ⌝ }
 {
     let mut block = 0;
     while block < sizes.blocks {

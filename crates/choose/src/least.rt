@@ -2,9 +2,10 @@
 use model::Sheet;
 use rows::Sizes;
 use rows::line_at;
+use sheets::larger;
 use value::Value;
 ghost use mathlib.Core.Path.{_≡_};
-ghost use Prim.Native.Nat.{max, _-_, _≤_, _<_};
+ghost use Prim.Native.Nat.{_-_, _≤_, _<_};
 ghost use Rattle.model.specs.Counted.{counted};
 ghost use Rattle.queues.specs.Blocks.{queueWith, firstOf, numberIn};
 ghost use Rattle.value.specs.Narrow.{width, valueOf};
@@ -19,16 +20,6 @@ const NO_SPEED: u32 = 255;
 pub struct Chosen {
     pub speed: u32,
     pub value: Value,
-}
-
-// The larger of two numbers.
-fn larger(a: u32, b: u32) -> u32
-    ensures { λ r. ⌜ r ≡ max a b ⌝ }
-{
-    if a < b {
-        return b;
-    }
-    a
 }
 
 // How far a number is above another, 0 where it is not.

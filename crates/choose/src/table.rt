@@ -11,15 +11,15 @@ use rows::line_at;
 use rows::put_head;
 use rows::put_pair;
 ghost use mathlib.Core.Path.{_≡_};
-ghost use Prim.Native.Nat.{ℕ, _+_, _≤_, _<_};
-ghost use lib.ListN.{length, getD};
+ghost use Prim.Native.Nat.{_+_, _≤_, _<_};
+ghost use lib.ListN.{length};
 ghost use Rattle.model.specs.Counted.{counted, speedAt, energyAt};
 ghost use Rattle.model.specs.Queue.{queueIn};
 ghost use Rattle.model.specs.Refusal.{fieldsRefusal};
 ghost use Rattle.queues.specs.Counts.{HoldsCounts};
 ghost use Rattle.value.specs.Fills.{Fills, numberAt};
 ghost use Rattle.rows.specs.Sizes.{Measured};
-ghost use Rattle.rows.specs.Tables.{lineAt, Columns, Lines};
+ghost use Rattle.rows.specs.Tables.{lineAt, Columns, LinesPut};
 ghost use Rattle.choose.specs.Lanes.{leadsOn, slowestIn, laneOf, speedLine, SpeedTable};
 
 // Whether a speed leads on: it is at least w(1), and the queue after the slot is bearable.
@@ -109,9 +109,8 @@ fn put_line(counts: &[u32; 2352], sheet: Sheet, sizes: Sizes, block: usize, lane
 fn fill_lines(counts: &[u32; 2352], sheet: Sheet, sizes: Sizes, lanes: &mut [u32])
     requires { ⌜ HoldsCounts (now counts) × Measured sizes × (fieldsRefusal (counted sheet) ≡ 0) ×
         (lineAt 9 (sheet .«speed_count») (sizes .after) ≤ length (now lanes)) ⌝ }
-    ensures { λ r. ⌜ Lines 9 (sheet .«speed_count») (sizes .after) (speedLine (sizes .largest) (sizes .bound) (counted sheet))
-        (now (lanes .exit)) ×
-        ((p : ℕ) → p < 18 → getD (now (lanes .exit)) p 0 ≡ getD (now (lanes .entry)) p 0) ⌝ }
+    ensures { λ r. ⌜ LinesPut 9 (sheet .«speed_count») (sizes .after) (speedLine (sizes .largest) (sizes .bound) (counted sheet))
+        (now (lanes .entry)) (now (lanes .exit)) ⌝ }
 {
     let mut block = 0;
     while block < sizes.after {

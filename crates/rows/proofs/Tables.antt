@@ -9,7 +9,7 @@ use lib.ListN.{length, getD, set, length-set}
 use lib.Seq.{getD-set-same, getD-set-other}
 use Rattle.value.specs.Fills.{Fills, numberAt}
 use Rattle.value.proofs.Filling.{number-local, number-stored, fills-none, fills-more}
-use Rattle.rows.specs.Tables.{lineOf, lineAt, Columns, Lines, Table}
+use Rattle.rows.specs.Tables.{lineOf, lineAt, Columns, Lines, LinesPut, Table}
 
 -- the columns
 
@@ -104,17 +104,20 @@ line-same {number} {lowest} {third} {at} {number′} {lowest′} {third′} {n =
     (subst (λ (x : ℕ). Fills 1 numberAt (lineOf number x third′ lane) at n l l′) q
     (subst (λ (x : ℕ). Fills 1 numberAt (lineOf number lowest x lane) at n l l′) r fill)))
 
+-- a line lies within a table that has room for it
+pub line-within : (c n b blocks : ℕ) {room : ℕ} → b < blocks → lineAt c n blocks ≤ room → lineAt c n b + (n + 3) ≤ room
+line-within c n b blocks h room = omega (arith, mul-le-mul-right (n + 3) h, suc-mul b (n + 3))
+
 -- the lines
 
--- of no block
-pub lines-none : (c n : ℕ) (line : ℕ → ℕ → ℕ) (l : List ℕ) → c + c ≤ length l → Lines c n 0 line l
-lines-none c n line l room = record { room = omega arith; right = λ b i h k. absurd (not-suc-le-zero h) }
-
--- of one block more
-pub lines-more : (c n b : ℕ) (line : ℕ → ℕ → ℕ) {l l′ : List ℕ} → lineAt c n (b + 1) ≤ length l →
+-- one line more
+lines-more : (c n b : ℕ) (line : ℕ → ℕ → ℕ) {l l′ : List ℕ} → lineAt c n b + (n + 3) ≤ length l →
     Fills 1 numberAt (line b) (lineAt c n b) (n + 3) l l′ → Lines c n b line l → Lines c n (b + 1) line l′
 lines-more c n b line {l} {l′} room fill so-far =
-    record { room = omega (arith, fill .same-length); right = λ k i h low. each k i low (eq-or-lt-of-le (upto k h)) }
+    record {
+      room = omega (arith, fill .same-length, suc-mul b (n + 3));
+      right = λ k i h low. each k i low (eq-or-lt-of-le (upto k h));
+    }
   where
     upto : (k : ℕ) → k < b + 1 → k ≤ b
     upto k h = omega arith
@@ -126,23 +129,32 @@ lines-more c n b line {l} {l′} room fill so-far =
         let before : k * (n + 3) + (n + 3) ≤ b * (n + 3) = omega (arith, mul-le-mul-right (n + 3) h, suc-mul k (n + 3)) in
         fill .outside (lineAt c n k + i) (inl (omega arith)) ∙ so-far .right k i h low
 
--- a line that is written leaves the columns
-pub line-behind : (c n b size : ℕ) (line : ℕ → ℕ) {l l′ : List ℕ} → Fills 1 numberAt line (lineAt c n b) size l l′ →
-    (p : ℕ) → p < c + c → getD l′ p 0 ≡ getD l p 0
-line-behind c n b size line fill p h = fill .outside p (inl (omega arith))
+-- none is put yet, in a table that has room for all
+pub put-none : (c n blocks : ℕ) (line : ℕ → ℕ → ℕ) {l : List ℕ} → lineAt c n blocks ≤ length l → LinesPut c n 0 line l l
+put-none c n blocks line room =
+    record {
+      same-length = refl;
+      lines = record { room = omega arith; right = λ b i h k. absurd (not-suc-le-zero h) };
+      columns-same = λ p h. refl;
+    }
 
--- so far the lines reach that are put one after the other, within a table that has room for them all
-pub line-before : (c n b blocks : ℕ) {room : ℕ} → b < blocks → lineAt c n blocks ≤ room → lineAt c n (b + 1) ≤ room
-line-before c n b blocks h room =
-    let more : b + 1 ≤ blocks = omega arith in
-    omega (arith, mul-le-mul-right (n + 3) more)
+-- one more is put, and leaves the columns before it
+pub put-more : (c n b blocks : ℕ) (line : ℕ → ℕ → ℕ) {l₀ l l′ : List ℕ} → b < blocks → lineAt c n blocks ≤ length l₀ →
+    Fills 1 numberAt (line b) (lineAt c n b) (n + 3) l l′ → LinesPut c n b line l₀ l → LinesPut c n (b + 1) line l₀ l′
+put-more c n b blocks line low room fill so-far =
+    record {
+      same-length = fill .same-length ∙ so-far .same-length;
+      lines = lines-more c n b line (omega (arith, line-within c n b blocks low room, so-far .same-length)) fill (so-far .lines);
+      columns-same = λ p h. fill .outside p (inl (omega arith)) ∙ so-far .columns-same p h;
+    }
 
--- a line lies within a table that has room for it
-pub line-within : (c n b blocks : ℕ) {room : ℕ} → b < blocks → lineAt c n blocks ≤ room → lineAt c n b + (n + 3) ≤ room
-line-within c n b blocks h room = omega (arith, mul-le-mul-right (n + 3) h, suc-mul b (n + 3))
+-- as many are put as there are
+pub put-all : (c n : ℕ) {blocks all : ℕ} (line : ℕ → ℕ → ℕ) {l₀ l : List ℕ} → blocks ≡ all → LinesPut c n blocks line l₀ l →
+    LinesPut c n all line l₀ l
+put-all c n line {l₀} {l} e = subst (λ (k : ℕ). LinesPut c n k line l₀ l) e
 
 -- the columns, and behind them the lines of all blocks, are the table
 pub table-whole : (c n : ℕ) {blocks all : ℕ} {f g : ℕ → ℕ} {line : ℕ → ℕ → ℕ} {l l′ : List ℕ} → n ≤ c → blocks ≡ all → Columns c n f g l →
-    Lines c n blocks line l′ → ((p : ℕ) → p < c + c → getD l′ p 0 ≡ getD l p 0) → Table c n all f g line l′
-table-whole c n {line = line} {l′ = l′} few e columns lines kept =
-    record { columns = columns-kept c n few kept columns; lines = subst (λ (k : ℕ). Lines c n k line l′) e lines }
+    LinesPut c n blocks line l l′ → Table c n all f g line l′
+table-whole c n {line = line} few e columns put =
+    record { columns = columns-kept c n few (put .columns-same) columns; lines = put-all c n line e put .lines }

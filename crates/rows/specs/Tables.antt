@@ -27,6 +27,12 @@ pub record Lines (c n blocks : ℕ) (line : ℕ → ℕ → ℕ) (l : List ℕ) 
   pub room : lineAt c n blocks ≤ length l
   pub right : (b i : ℕ) → b < blocks → i < n + 3 → getD l (lineAt c n b + i) 0 ≡ line b i
 
+-- .. put behind the columns of l₀, which stay as they are
+pub record LinesPut (c n blocks : ℕ) (line : ℕ → ℕ → ℕ) (l₀ l : List ℕ) : Type 0 where
+  pub same-length : length l ≡ length l₀
+  pub lines : Lines c n blocks line l
+  pub columns-same : (p : ℕ) → p < c + c → getD l p 0 ≡ getD l₀ p 0
+
 -- a whole table
 pub record Table (c n blocks : ℕ) (first second : ℕ → ℕ) (line : ℕ → ℕ → ℕ) (l : List ℕ) : Type 0 where
   pub columns : Columns c n first second l

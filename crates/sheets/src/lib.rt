@@ -9,6 +9,7 @@ mod rooms;
 
 pub use limits::Greatest;
 pub use limits::greatest_of;
+pub use limits::larger;
 pub use limits::limits_refusal;
 pub use limits::queues_of;
 pub use limits::weights;

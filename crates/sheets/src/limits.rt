@@ -13,7 +13,7 @@ ghost use Rattle.queues.specs.Counts.{HoldsCounts};
 const VALUE_LIMIT: u64 = 9223372036854775807;
 
 // The larger of two numbers.
-fn larger(a: u32, b: u32) -> u32
+pub fn larger(a: u32, b: u32) -> u32
     ensures { λ r. ⌜ r ≡ max a b ⌝ }
 {
     if a < b {

@@ -19,9 +19,8 @@ returns : tie.Need-returns
 returns c =
     let start = c .before .before .before .before .before .before .before .before .before in
     let s = counted (start .args .sheet) in
-    let lines = c .before .before .fill-lines .ensures in
     table-whole 9 (s .speedCount) (ranged s (start .pre .2) .speeds-high) (start .pre .1 .after-is)
-    (c .before .before .before .before .before .before .fill-speeds .ensures) (lines .0) (lines .1)
+    (c .before .before .before .before .before .before .fill-speeds .ensures) (c .before .before .fill-lines .ensures)
 
 pub fill-table-spec : {M : Type 1} → statement M
 fill-table-spec = tie.close (tie.spec fill-speeds-requires fill-lines-requires same-length returns)
