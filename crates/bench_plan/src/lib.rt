@@ -1,9 +1,11 @@
 // The planner as the benchmark's C program calls it (tests/bench): one function for `rt staticlib`, and nothing that anything else needs.
+ghost use Rattle.bench_plan.specs.Planned.{IsPlanned};
 
-// Reads the bytes of a sheet and plans it in lent memory: the number that the reader answers, or the planner. What the two leave is in their
-// own contracts; the benchmark compares it.
+// Reads the bytes of a sheet and plans it in lent memory: the number that the reader answers, or the planner.
 #[no_mangle]
-pub extern "C" fn bench_plan(bytes: &[u8], values: &mut [u64], plan: &mut [u8]) -> u32 {
+pub extern "C" fn bench_plan(bytes: &[u8], values: &mut [u64], plan: &mut [u8]) -> u32
+    ensures { λ r. ⌜ IsPlanned (now (bytes .entry)) (now (values .entry)) (now (plan .entry)) (now (values .exit)) (now (plan .exit)) r ⌝ }
+{
     let read = codec::read(bytes);
     if read.number != 0 {
         return read.number;

@@ -1,0 +1,19 @@
+-- What the benchmark's function leaves in lent memory: what `plan` leaves of the sheet that `read` answers, and nothing new where the bytes
+-- are refused.
+use Prim.Native.Nat.{ℕ, zero, suc}
+use mathlib.Core.Path.{_≡_}
+use mathlib.Core.List.{List}
+use Rattle.model.specs.Counted.{Counted, counted}
+use Rattle.model.specs.Plan.{PlanAnswer, Leaves, Untouched, valueIn}
+use Rattle.model.specs.Reading.{read}
+
+-- by the reader's number
+abbrev pub LeavesRead : ℕ → Counted → (values₀ plan₀ values plan : List ℕ) → PlanAnswer → Type 0
+LeavesRead zero s values₀ plan₀ values plan a = Leaves valueIn s values₀ plan₀ values plan a
+LeavesRead (suc number) s values₀ plan₀ values plan a = Untouched (suc number) values₀ plan₀ values plan a
+
+-- of the planner's answer the function hands the number on
+pub record IsPlanned (bytes values₀ plan₀ values plan : List ℕ) (number : ℕ) : Type 0 where
+  pub answer : PlanAnswer
+  pub number-is : number ≡ answer .number
+  pub leaves : LeavesRead (read bytes .number) (counted (read bytes .sheet)) values₀ plan₀ values plan answer
