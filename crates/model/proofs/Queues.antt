@@ -11,7 +11,7 @@ use native.Mathlib.Omega.{arith}
 use borrow.Author.Tests.{ltb-true, ltb-false}
 use lib.Dec.{T, leb, ltb, eqb, leb→le, le→leb, eqb→eq}
 use lib.ListN.{length, getD, replicate, length-append, length-map, length-replicate, List·getD-eq-default}
-use lib.Seq.{length-take-le, getD-take, take-take, take-append-seam}
+use lib.Seq.{ext-getD, length-take-le, getD-take, take-take, take-append-seam}
 use Rattle.process.specs.Sums.{sum, same}
 use Rattle.process.proofs.Sums.{same-refl, same-true}
 use Rattle.model.specs.Tests.{listed}
@@ -57,6 +57,16 @@ total-run w s u h k = total-totals (length w) (λ v. total w (min (suc v) (lengt
 pub total-arrive : (w : Queue) (c d u : ℕ) → 1 ≤ u → u ≤ length w → total (arrive w c d) u ≡ total w u + cond (leb d u) c 0
 unfolding arrive
 total-arrive w c d u h k = total-totals (length w) (λ v. total w v + cond (leb d v) c 0) u h k
+
+-- after both
+pub total-slot : (w : Queue) (s c d u : ℕ) → 1 ≤ u → u ≤ length w →
+    total (oneSlot w s c d) u ≡ total w (min (suc u) (length w)) - s + cond (leb d u) c 0
+total-slot w s c d u h k =
+    total-arrive (run w s) c d u h (omega (arith, length-run w s)) ∙ ap (λ n. n + cond (leb d u) c 0) (total-run w s u h k)
+
+-- queues of as many positions with equal totals are equal
+pub same-totals : (v w : Queue) → length v ≡ length w → ((u : ℕ) → 1 ≤ u → u ≤ length v → total v u ≡ total w u) → v ≡ w
+same-totals v w e h = ext-getD 0 v w e (λ i l. h (suc i) (omega arith) l)
 
 -- bearable, position by position
 

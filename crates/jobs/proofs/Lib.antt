@@ -1,0 +1,10 @@
+pub mod Computed
+pub mod Sums
+pub mod Earliest
+pub mod Slots
+pub mod Runs
+pub mod Given
+pub mod Least
+pub mod Finishable
+pub mod Pools
+pub mod Ways
