@@ -15,3 +15,4 @@ pub mod Listing
 pub mod Hopeless
 pub mod Stepping
 pub mod SpendsLeast
+pub mod InTime

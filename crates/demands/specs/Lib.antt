@@ -2,3 +2,4 @@ pub mod Paired
 pub mod Calls
 pub mod Numbers
 pub mod Runs
+pub mod InTime

@@ -123,35 +123,39 @@ totals-tell D l p h n run a =
     enough m = misses-none-enough (queueOfPool D p) p (own-nowhere-above D p) run (m .0) (m .1)
 
 -- a run of n slots, of which slot t is `slot t`, and the queues before them: `queue 0` at the start, and each next one by 01's rule
-pub record QueuesAlong (slot : ℕ → Slot) (queue : ℕ → Queue) (n : ℕ) : Type 0 where
+pub record QueuesAlong (D : ℕ) (slot : ℕ → Slot) (queue : ℕ → Queue) (n : ℕ) : Type 0 where
+  pub deadline-low : (t : ℕ) → t < n → 1 ≤ slot t .deadline
+  pub deadline-high : (t : ℕ) → t < n → slot t .deadline ≤ D
   pub enough : (t : ℕ) → t < n → total (queue t) 1 ≤ slot t .speed
   pub next : (t : ℕ) → t < n → queue (suc t) ≡ oneSlot (queue t) (slot t .speed) (slot t .size) (slot t .deadline)
 
 -- without its first slot
-after-first : {slot : ℕ → Slot} {queue : ℕ → Queue} {n : ℕ} → QueuesAlong slot queue (suc n) →
-    QueuesAlong (λ t. slot (suc t)) (λ t. queue (suc t)) n
-after-first along = record { enough = λ t h. along .enough (suc t) (omega arith); next = λ t h. along .next (suc t) (omega arith) }
+after-first : {D : ℕ} {slot : ℕ → Slot} {queue : ℕ → Queue} {n : ℕ} → QueuesAlong D slot queue (suc n) →
+    QueuesAlong D (λ t. slot (suc t)) (λ t. queue (suc t)) n
+after-first along = record {
+  deadline-low = λ t h. along .deadline-low (suc t) (omega arith);
+  deadline-high = λ t h. along .deadline-high (suc t) (omega arith);
+  enough = λ t h. along .enough (suc t) (omega arith);
+  next = λ t h. along .next (suc t) (omega arith);
+}
 
--- its speeds are enough
-pub along-enough : (slot : ℕ → Slot) (queue : ℕ → Queue) (n : ℕ) → QueuesAlong slot queue n → Enough (queue 0) (listed slot n)
-unfolding listed
-along-enough slot queue zero along = tt
-along-enough slot queue (suc n) along = (
-  along .enough 0 (zero-lt-suc n),
-  subst (λ (w : Queue). Enough w (listed (λ t. slot (suc t)) n)) (along .next 0 (zero-lt-suc n))
-      (along-enough (λ t. slot (suc t)) (λ t. queue (suc t)) n (after-first along)),
-)
-
--- and the pool's queue after it, by earliest deadline first, is the last of these
-pub along-queue : (D : ℕ) (slot : ℕ → Slot) (queue : ℕ → Queue) (n : ℕ) → QueuesAlong slot queue n →
-    ((t : ℕ) → t < n → slot t .deadline ≤ D) → (p : Pool) → SlotsUpto D p → queueOfPool D p ≡ queue 0 →
+-- earliest deadline first misses no deadline, and the queue of the pool after the run is the last of these
+pub along-earliest : (D : ℕ) → 1 ≤ D → (slot : ℕ → Slot) (queue : ℕ → Queue) (n : ℕ) → QueuesAlong D slot queue n →
+    (p : Pool) → SlotsUpto D p → NoneLate p → queueOfPool D p ≡ queue 0 →
+    EarliestFirst p (listed slot n) ×
     (queueOfPool D (poolAfter p (listed slot n) (earliestRun p (listed slot n))) ≡ queue n) ×
     SlotsUpto D (poolAfter p (listed slot n) (earliestRun p (listed slot n)))
 unfolding listed poolAfter earliestRun
-along-queue D slot queue zero along right p h e = (e, h)
-along-queue D slot queue (suc n) along right p h e =
+along-earliest D l slot queue zero along p h none e = (none, e, h)
+along-earliest D l slot queue (suc n) along p h none e =
     let x = slot 0 in
+    let first = zero-lt-suc n in
     let t = earliest (x .speed) p in
-    along-queue D (λ t. slot (suc t)) (λ t. queue (suc t)) n (after-first along) (λ u l. right (suc u) (omega arith)) (nextPool p t x)
-    (next-slots D p t x h (right 0 (zero-lt-suc n)))
-    (earliest-slot D p h x ∙ ap (λ (w : Queue). oneSlot w (x .speed) (x .size) (x .deadline)) e ∙ sym (along .next 0 (zero-lt-suc n)))
+    let enough = subst (λ (w : Queue). total w 1 ≤ x .speed) (sym e) (along .enough 0 first) in
+    let on-time = earliest-on-time-queue D (x .speed) p l .1 enough in
+    let rest =
+    along-earliest D l (λ t. slot (suc t)) (λ t. queue (suc t)) n (after-first along) (nextPool p t x)
+    (next-slots D p t x h (along .deadline-high 0 first))
+    (arrived-on-time (afterSlot p t) (x .size) (x .deadline) (along .deadline-low 0 first) on-time)
+    (earliest-slot D p h x ∙ ap (λ (w : Queue). oneSlot w (x .speed) (x .size) (x .deadline)) e ∙ sym (along .next 0 first)) in
+    ((none, earliest-serves (x .speed) p, rest .0), rest .1, rest .2)

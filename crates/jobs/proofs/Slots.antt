@@ -33,7 +33,8 @@ pub due-next : (p : Pool) (t : Service) (x : Slot) (u : ℕ) →
     dueWithin (nextPool p t x) u ≡ dueWithin (spend p t) (suc u) + cond (leb (x .deadline) u) (x .size) 0
 due-next p t x u = due-arrived (afterSlot p t) (x .size) (x .deadline) u ∙ ap (λ n. n + cond (leb (x .deadline) u) (x .size) 0) (due-off (spend p t) u)
 
--- THEOREM 1: served earliest deadline first, counted off and arrived by the arrival, the pool's queue is `oneSlot` of the queue it had
+-- "This is earliest deadline first": of jobs so served, when the slot is counted off and the arrival has come, the queue is what 01's slot and
+-- arrival make of the queue before
 pub earliest-slot : (D : ℕ) (p : Pool) → SlotsUpto D p → (x : Slot) →
     queueOfPool D (nextPool p (earliest (x .speed) p) x) ≡ oneSlot (queueOfPool D p) (x .speed) (x .size) (x .deadline)
 earliest-slot D p h x = same-totals (queueOfPool D q) (oneSlot w s c d) (length-totals D (dueWithin q) ∙ sym (length-slot w s c d ∙ len)) each
@@ -47,11 +48,12 @@ earliest-slot D p h x = same-totals (queueOfPool D q) (oneSlot w s c d) (length-
     d : ℕ
     d = x .deadline
 
-    q : Pool
-    q = nextPool p (earliest s p) x
-
     w : Queue
     w = queueOfPool D p
+
+    -- the pool after it
+    q : Pool
+    q = nextPool p (earliest s p) x
 
     len : length w ≡ D
     len = length-totals D (dueWithin p)
@@ -69,7 +71,7 @@ earliest-slot D p h x = same-totals (queueOfPool D q) (oneSlot w s c d) (length-
           total-slot w s c d u l (omega (arith, len)),
         )
 
--- THEOREM 2: by earliest deadline first at speed s no job is late after the slot exactly where s is at least what is due within one slot
+-- by earliest deadline first at speed s no job is late after the slot exactly where s is at least what is due within one slot
 pub earliest-on-time : (s : ℕ) (p : Pool) → NoneLate (afterSlot p (earliest s p)) ↔ (dueWithin p 1 ≤ s)
 earliest-on-time s p = (
   λ h. omega (arith, none-late (afterSlot p (earliest s p)) h, due-off (spend p (earliest s p)) 0, earliest-leaves s p 1),

@@ -162,6 +162,11 @@ module _ (s : Counted) where
   unfolding byteRight
   byte-on-sheet x byte t = and-left (onSheet s byte) _ t
 
+  -- and at least w(1)
+  pub byte-enough : (x : State) (byte : ℕ) → T (byteRight s x byte) → total (queueOf s x) 1 ≤ byte
+  unfolding byteRight
+  byte-enough x byte t = leb→le (total (queueOf s x) 1) byte (and-right (onSheet s byte) _ t)
+
   -- advance
 
   -- each entry of the sheet is one

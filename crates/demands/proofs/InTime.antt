@@ -1,0 +1,128 @@
+-- Demand 2 said of single jobs, over the actual contracts: the value that `plan` leaves is the least scaled energy over all ways that, with
+-- some order of service beside them, miss no job's deadline and keep every pool finishable, none exactly where there is no such way
+-- (`value-in-time`, `none-in-time`), the byte the slowest speed that begins a least one (`byte-in-time`); and a run of the stepper with that
+-- plan, the jobs served earliest deadline first, is in time for every job (`run-in-time`). All of it follows from what is proved of totals.
+use Prim.Native.Nat.{ℕ, _-_, _≤_, _<_}
+use mathlib.Core.Path.{_≡_, sym, ap, _∙_, subst}
+use mathlib.Core.List.{List}
+use mathlib.Core.Logic.{_↔_}
+use mathlib.Core.Option.{none}
+use native.Mathlib.Nat.{le-trans}
+use native.Mathlib.Omega.{arith}
+use lib.Dec.{T}
+use lib.ListN.{length, getD}
+use Rattle.process.specs.Ways.{Way}
+use Rattle.model.specs.Counted.{Counted, counted, M}
+use Rattle.model.specs.Plan.{HasValue, placeOfQueue, planRefusal, valueIn}
+use Rattle.model.specs.Queue.{Queue, total, bearable, positions, unusedZero}
+use Rattle.model.specs.Stepper.{queueOf, planByte}
+use Rattle.model.specs.declared.Sheet.{Sheet}
+use Rattle.model.proofs.Queues.{length-totals}
+use Rattle.model.proofs.Refusal.{Ranged, accepted}
+use Rattle.model.proofs.Rooms.{plan-accepted}
+use Rattle.model.proofs.Stepper.{speed-by, speed-number, speed-accepted, byte-enough}
+use Rattle.planner.specs.declared.calls.PlanAnswer.{PlanAnswer}
+use Rattle.stepper.specs.Calls.{stateOf}
+use Rattle.stepper.specs.declared.state.State.{State}
+use Rattle.jobs.specs.InTime.{InTime, IsValueOfPool, IsByteOfPool}
+use Rattle.jobs.specs.Pool.{Pool, dueWithin, queueOfPool, NoneLate, SlotsUpto}
+use Rattle.jobs.specs.Runs.{earliestRun, Finishable}
+use Rattle.jobs.proofs.Finishable.{bearable-finishable}
+use Rattle.jobs.proofs.Given.{misses-none-done}
+use Rattle.jobs.proofs.Runs.{QueuesAlong, along-earliest, ends-on-time}
+use Rattle.jobs.proofs.Ways.{good-in-time, value-of-pool, byte-of-pool}
+use Rattle.demands.specs.Calls.{Plans}
+use Rattle.demands.specs.InTime.{slotAt, slotsBefore, poolBefore, InTimeBefore}
+use Rattle.demands.specs.Runs.{stateBefore, queueBefore, Run, NeverRefused}
+use Rattle.demands.proofs.Demand2.{value-right, byte-right, none-right}
+use Rattle.demands.proofs.Determined.{speed-is}
+use Rattle.demands.proofs.Stepping.{never-refused}
+
+module _ {sheet : Sheet} {values₀ plan₀ values bytes : List ℕ} {a : PlanAnswer} (call : Plans sheet values₀ plan₀ a values bytes)
+    (planned : planRefusal (counted sheet) (length values₀) (length plan₀) ≡ 0) where
+  abbrev s : Counted
+  s = counted sheet
+
+  -- the sheet keeps every range
+  ranged : Ranged s
+  ranged = accepted s (plan-accepted s (length values₀) (length plan₀) planned .0) .ranged
+
+  -- jobs that wait, none of them late or with more than D slots left
+  module _ (p : Pool) (slots : SlotsUpto (s .bound) p) (on-time : NoneLate p) where
+    -- which can be finished
+    module _ (finishable : Finishable (M s) (s .bound) p) where
+      is-bearable : T (bearable (M s) (queueOfPool (s .bound) p))
+      is-bearable = bearable-finishable (s .bound) (ranged .bound-low) p slots on-time (M s) .1 finishable
+
+      long : length (queueOfPool (s .bound) p) ≡ s .bound
+      long = length-totals (s .bound) (dueWithin p)
+
+      -- the value's place says the least scaled energy over all ways that are in time for these jobs, or none
+      pub value-in-time : (t : ℕ) → t ≤ sheet .horizon →
+          IsValueOfPool s t p (valueIn values (placeOfQueue s t (queueOfPool (s .bound) p)))
+      value-in-time t h =
+          value-of-pool s ranged p slots on-time t (valueIn values (placeOfQueue s t (queueOfPool (s .bound) p)))
+          (value-right call planned (queueOfPool (s .bound) p) is-bearable long t h)
+
+      -- none exactly where no way is
+      pub none-in-time : (t : ℕ) → t ≤ sheet .horizon →
+          (valueIn values (placeOfQueue s t (queueOfPool (s .bound) p)) ≡ none) ↔ ((σ : Way) → InTime s (s .horizon - t) p σ → ⊥)
+      none-in-time t h =
+          let right = none-right call planned (queueOfPool (s .bound) p) is-bearable long t h in
+          let same = good-in-time s ranged p slots on-time (s .horizon - t) in
+          (λ e σ served. right .0 e σ (same σ .1 served), λ never. right .1 (λ σ good. never σ (same σ .0 good)))
+
+      -- the plan byte is the slowest speed that begins a least way that is in time, or 255
+      pub byte-in-time : (t : ℕ) → t < sheet .horizon →
+          IsByteOfPool s t p (valueIn values (placeOfQueue s t (queueOfPool (s .bound) p))) (getD bytes (placeOfQueue s t (queueOfPool (s .bound) p)) 0)
+      byte-in-time t h =
+          byte-of-pool s ranged p slots on-time t (valueIn values (placeOfQueue s t (queueOfPool (s .bound) p))) _
+          (byte-right call planned (queueOfPool (s .bound) p) is-bearable long t h)
+
+    -- a run from their queue, as in Stepping.antt
+    module _ {from : State} {arrivals : List ℕ} (run : Run sheet bytes from arrivals) (short : length arrivals ≤ s .horizon)
+        (entries : (t : ℕ) → t < length arrivals → getD arrivals t 0 < s .jobCount) (six : length (from .queue) ≡ positions)
+        (unused : T (unusedZero (s .bound) (from .queue))) (begins : HasValue s 0 (queueOf s (stateOf from)))
+        (their-queue : queueOfPool (s .bound) p ≡ queueOf s (stateOf from)) where
+      whole : NeverRefused sheet values bytes run
+      whole = never-refused call planned run short entries six unused begins
+
+      -- before slot t
+      abbrev queue : ℕ → Queue
+      queue t = queueBefore sheet (run .started) (run .stepped) t
+
+      -- each speed told is at least w(1)
+      enough : (t : ℕ) → t < length arrivals → total (queue t) 1 ≤ run .told t .speed
+      enough t h =
+          let promised = speed-is (run .speeds t h) in
+          let x = stateOf (stateBefore (run .started) (run .stepped) t) in
+          let zero = sym (speed-number s bytes x .0) ∙ sym (promised .number-is) ∙ whole .steps t h .speed-answers in
+          let told = promised .speed-is ∙ ap (λ r. r .speed) (speed-by s bytes x zero) in
+          omega (arith, told, byte-enough s x (planByte s bytes x) (speed-accepted s bytes x zero .2))
+
+      -- the slots before slot t, and the queues
+      along : (t : ℕ) → t ≤ length arrivals → QueuesAlong (s .bound) (slotAt sheet bytes run) queue t
+      along t h =
+          record {
+            deadline-low = λ u l. ranged .deadline-low (getD arrivals u 0) (entries u (le-trans l h));
+            deadline-high = λ u l. ranged .deadline-high (getD arrivals u 0) (entries u (le-trans l h));
+            enough = λ u l. enough u (le-trans l h);
+            next = λ u l. whole .steps u (le-trans l h) .queue-is;
+          }
+
+      -- the run is in time for every job
+      pub run-in-time : (t : ℕ) → t ≤ length arrivals → InTimeBefore sheet bytes run p t
+      run-in-time t h =
+          let (misses-none, queue-is, slots-upto) =
+          along-earliest (s .bound) (ranged .bound-low) (slotAt sheet bytes run) queue t (along t h) p slots on-time
+          (their-queue ∙ sym (whole .first-queue)) in
+          let services = earliestRun p (slotsBefore sheet bytes run t) in
+          let right = subst (λ (w : Queue). T (bearable (M s) w)) (sym queue-is) (whole .stands t h .is-bearable) in
+          record {
+            misses-none = misses-none;
+            all-done = misses-none-done p (slotsBefore sheet bytes run t) services .0 misses-none .1;
+            queue-is = queue-is;
+            finishable =
+                bearable-finishable (s .bound) (ranged .bound-low) (poolBefore sheet bytes run p t) slots-upto
+                (ends-on-time p (slotsBefore sheet bytes run t) services misses-none) (M s) .0 right;
+          }
