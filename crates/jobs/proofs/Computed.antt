@@ -20,9 +20,9 @@ sample = job 4 3 ∷ job 2 1 ∷ job 3 2 ∷ job 1 1 ∷ []
 abbrev slot : ℕ → ℕ → ℕ → Slot
 slot s c d = record { speed = s; size = c; deadline = d }
 
--- three slots, with 2 units that come after the first and are due within two slots, the last slot at speed s
+-- three slots, with 2 units that come after the first and are due within two slots, the second slot at speed s
 abbrev three : ℕ → List Slot
-three s = slot 5 2 2 ∷ slot 1 0 1 ∷ slot s 0 1 ∷ []
+three s = slot 5 2 2 ∷ slot s 0 1 ∷ slot 6 0 1 ∷ []
 
 pub record Worked : Type 0 where
   pub queue : queueOfPool 3 sample ≡ 3 ∷ 6 ∷ 10 ∷ []
@@ -45,16 +45,16 @@ pub record Worked : Type 0 where
   -- no service gives a job more than its work, or all jobs more than the units
   pub work-holds : Serves 5 sample (0 ∷ 3 ∷ 0 ∷ 0 ∷ []) → ⊥
   pub speed-holds : Serves 5 sample (3 ∷ 2 ∷ 0 ∷ 1 ∷ []) → ⊥
-  -- along three slots: at speed 6 in the last one nobody is late, at speed 5 somebody is, and 01's rule tells the two apart
-  pub run-on-time : MissesNone sample (three 6) (earliestRun sample (three 6))
-  pub run-late : MissesNone sample (three 5) (earliestRun sample (three 5)) → ⊥
-  pub run-enough : Enough (3 ∷ 6 ∷ 10 ∷ []) (three 6)
-  pub run-short : Enough (3 ∷ 6 ∷ 10 ∷ []) (three 5) → ⊥
+  -- along three slots: at speed 1 in the second no job is late, at speed 0 one is, and 01's rule tells the two apart
+  pub run-on-time : MissesNone sample (three 1) (earliestRun sample (three 1))
+  pub run-late : MissesNone sample (three 0) (earliestRun sample (three 0)) → ⊥
+  pub run-enough : Enough (3 ∷ 6 ∷ 10 ∷ []) (three 1)
+  pub run-short : Enough (3 ∷ 6 ∷ 10 ∷ []) (three 0) → ⊥
   -- what the first job, the third, and the one that comes, at place 4, have been given by their deadlines
-  pub first-done : given 0 3 (earliestRun sample (three 6)) ≡ 4
-  pub third-done : given 2 2 (earliestRun sample (three 6)) ≡ 3
+  pub first-done : given 0 3 (earliestRun sample (three 1)) ≡ 4
+  pub third-done : given 2 2 (earliestRun sample (three 1)) ≡ 3
   pub arrival-done : ByDeadline 4 2 2 2 ((0 ∷ 0 ∷ 1 ∷ 0 ∷ 0 ∷ []) ∷ (4 ∷ 0 ∷ 0 ∷ 0 ∷ 2 ∷ 0 ∷ []) ∷ [])
-  -- at speed 5 in the last slot one unit of the one that comes is left when it is due
+  -- of 2 units that come it is not enough to have been given 1
   pub arrival-late : ByDeadline 4 2 2 2 ((0 ∷ 0 ∷ 1 ∷ 0 ∷ 0 ∷ []) ∷ (4 ∷ 0 ∷ 0 ∷ 0 ∷ 1 ∷ 0 ∷ []) ∷ []) → ⊥
   pub two-quiet : quiet 4 2 ≡ slot 4 0 1 ∷ slot 4 0 1 ∷ []
 
@@ -76,9 +76,9 @@ worked =
       work-holds = λ h. omega (arith, h .each .1 .0);
       speed-holds = λ h. omega (arith, h .in-all);
       run-on-time = (omega arith, omega arith, (omega arith, omega arith, (omega arith, omega arith, omega arith)));
-      run-late = λ m. m .2 .2 .2 .1 .1 .1 .1 .0 (omega arith, refl);
+      run-late = λ m. m .2 .2 .0 .1 .1 .0 (omega arith, refl);
       run-enough = omega arith;
-      run-short = λ e. omega (arith, e .1 .1 .0);
+      run-short = λ e. omega (arith, e .1 .0);
       first-done = refl;
       third-done = refl;
       arrival-done = λ h. refl;
