@@ -7,7 +7,7 @@ use lib.ListN.{length}
 use Rattle.model.proofs.RoundTrip.{write-fits, write-short}
 use Rattle.model.proofs.Tests.{then-stops}
 use Rattle.model.proofs.Written.{written-refused}
-use Rattle.model.specs.Bytes.{sheetBytes, writeRefusal, write}
+use Rattle.model.specs.Bytes.{sheetBytes, writeRefusal, writeLines, write}
 use Rattle.model.specs.Counted.{Counted}
 use Rattle.model.specs.Refusal.{sheetRefusal}
 use Rattle.buffers.proofs.Laid.{laid-written}
@@ -23,7 +23,7 @@ refused-with s buffer number e some = rw e (written-refused (sheetBytes s) buffe
 -- the sheet is refused
 pub write-refused : (s : Counted) (buffer : List ℕ) {number : ℕ} → number ≡ sheetRefusal s → (number ≡ 0 → ⊥) →
     IsWritten s buffer number 0 buffer
-unfolding writeRefusal
+unfolding writeLines
 write-refused s buffer {number = number} e some = refused-with s buffer number (rw (← e) (then-stops number _ some)) some
 
 -- the buffer is too short

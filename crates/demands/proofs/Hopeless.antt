@@ -9,7 +9,7 @@ use native.Mathlib.Nat.{le-refl}
 use native.Mathlib.Omega.{arith}
 use lib.ListN.{length}
 use Rattle.model.specs.Counted.{Counted, counted}
-use Rattle.model.specs.Plan.{IsValueAt}
+use Rattle.model.specs.Plan.{IsValueAt, planLines}
 use Rattle.model.specs.Queue.{Queue, emptyQueue}
 use Rattle.model.specs.Refusal.{sheetRefusal}
 use Rattle.model.specs.declared.Sheet.{Sheet}
@@ -18,9 +18,9 @@ use Rattle.model.proofs.Rooms.{plan-accepted}
 use Rattle.planner.specs.declared.calls.PlanAnswer.{PlanAnswer}
 use Rattle.demands.specs.Calls.{Plans}
 use Rattle.demands.specs.Paired.{Paired, NowhereLonger}
-use Rattle.demands.proofs.Demand1.{plan-tells}
+use Rattle.demands.proofs.Demand1.{plan-answers}
 use Rattle.demands.proofs.Demand3.{demand3}
-use Rattle.demands.proofs.SheetInOrder.{plan-told}
+use Rattle.demands.proofs.InOrder.{all-zero}
 
 -- a sheet is paired with itself
 paired-self : (s : Counted) → sheetRefusal s ≡ 0 → Paired s s (λ i. i) (λ i. i)
@@ -53,7 +53,7 @@ pub twelve-is-hopeless : {sheet : Sheet} {values₀ plan₀ values bytes : List 
     a .number ≡ 12 → (w : Queue) → length w ≡ counted sheet .bound → (v : ℕ) → IsValueAt (counted sheet) 0 w (some v) → ⊥
 twelve-is-hopeless {sheet} {values₀} {plan₀} call e w long v value =
     let s = counted sheet in
-    let tested = plan-tells call .twelve .0 e in
-    let fits = plan-accepted s (length values₀) (length plan₀) (plan-told s (length values₀) (length plan₀) .done .1 (tested .0)) in
+    let tested = plan-answers call .twelve .0 e in
+    let fits = plan-accepted s (length values₀) (length plan₀) (all-zero (planLines s (length values₀) (length plan₀)) (tested .0)) in
     let eased = demand3 s s (λ i. i) (λ i. i) (paired-self s (fits .0)) (emptyQueue (s .bound)) w (empty-no-longer (s .bound) w long) 0 v value in
     tested .1 (eased .1 .way) (eased .1 .holds)

@@ -1,231 +1,134 @@
--- Laws of lines in order (specs/Numbers.antt), of any lines: the number of the first that fails is the model's `check .. then ..`; it is n
--- exactly when a test of number n fails and every earlier one passes, said for one line and for a table; and which numbers it can be.
-use Prim.Native.Nat.{ℕ, zero, suc, _+_, _-_, _≤_, _<_}
-use mathlib.Core.Path.{_≡_, refl, sym, ap, _∙_, subst}
-use mathlib.Core.Bool.{Bool, true, false, _||_}
-use mathlib.Core.List.{List, [], _∷_, _++_}
+-- Tests in order (specs/Numbers.antt), of any lines: the number of the first that fails tells them; which numbers it can be; and the same
+-- where 12 comes after the lines.
+use Prim.Native.Nat.{ℕ, zero, suc, _<_}
+use mathlib.Core.Path.{_≡_, refl, sym, _∙_, subst}
+use mathlib.Core.Bool.{Bool, true, false, not, _||_}
+use mathlib.Core.List.{List, [], _∷_}
 use mathlib.Core.Logic.{⊎-elim, _⊎_, inl, inr, _↔_}
+use mathlib.Core.Option.{Option, none, some}
 use native.Mathlib.Nat.{suc-ne-zero, not-suc-le-zero, zero-lt-suc, le-refl, eq-or-lt-of-le, le-of-suc-le-suc}
 use native.Mathlib.Omega.{arith}
-use borrow.Author.Tests.{eqb-true}
+use borrow.Author.Tests.{eqb-true, eq-eqb, ne-eqb}
 use lib.Dec.{T, eqb}
-use Rattle.model.proofs.Tests.{then-then, everywhere-at}
-use Rattle.model.specs.Tests.{check, _then_, inOrder, inTurn, everywhere}
-use Rattle.demands.specs.Numbers.{Line, line, AllPass, FailsFirst, Tells, OneOf}
+use Rattle.model.specs.Plan.{number12}
+use Rattle.model.specs.Tests.{Lines, nothing, line, _⨾_, table, firstOf, check, _then_, inOrder}
+use Rattle.model.proofs.Tests.{check-passes, then-on, in-order-all}
+use Rattle.demands.specs.Numbers.{AllPass, FailsFirst, Tells, OneOf, Answers, AnswersOr12}
 
--- the number of the first line whose test fails, 0 where all pass
-abbrev pub firstOf : List Line → ℕ
-firstOf [] = 0
-firstOf (x ∷ l) = check (x .passes) (x .number) then firstOf l
+-- the number of the first that fails
 
--- every line's number is so
-abbrev pub Each : (ℕ → Type 0) → List Line → Type 0
-Each P [] = Unit {0}
-Each P (x ∷ l) = P (x .number) × Each P l
+-- the test holds of every line's number
+abbrev pub Each : (ℕ → Bool) → Lines → Type 0
+Each so nothing = Unit {0}
+Each so (line number passes) = T (so number)
+Each so (l ⨾ m) = Each so l × Each so m
+Each so (table lines n) = (i : ℕ) → Each so (lines i)
 
--- it is not n
-abbrev pub Other : ℕ → ℕ → Type 0
-Other n m = m ≡ n → ⊥
+-- none is n
+abbrev pub Without : ℕ → Lines → Type 0
+Without n l = Each (λ m. not (eqb m n)) l
 
--- the first that fails of lines and then others
-pub first-append : (l m : List Line) → firstOf (l ++ m) ≡ firstOf l then firstOf m
-first-append [] m = refl
-first-append (x ∷ l) m =
-    ap (λ (n : ℕ). check (x .passes) (x .number) then n) (first-append l m) ∙
-    sym (then-then (check (x .passes) (x .number)) (firstOf l) (firstOf m))
+line-tells : (number : ℕ) (passes : Bool) → Without 0 (line number passes) → Tells (check passes number) (line number passes)
+line-tells number true p = record {
+  refused = λ n h. (λ e. absurd (omega (arith, h, e)), λ f. absurd (subst T (f .0) tt));
+  done = (λ e. tt, λ a. refl);
+}
+line-tells zero false p = absurd p
+line-tells (suc number) false p = record {
+  refused = λ n h. (λ e. (refl, e), λ f. f .1);
+  done = (λ e. absurd (suc-ne-zero number e), λ a. absurd a);
+}
 
--- and of lists of lines that stand in turn
-pub first-in-turn : (f : ℕ → List Line) (n : ℕ) → firstOf (inTurn f n) ≡ inOrder (λ i. firstOf (f i)) n
-unfolding inTurn inOrder
-first-in-turn f zero = refl
-first-in-turn f (suc n) = first-append (inTurn f n) (f n) ∙ ap (λ (k : ℕ). k then firstOf (f n)) (first-in-turn f n)
+then-tells : (l m : Lines) (k j : ℕ) → Tells k l → Tells j m → Tells (k then j) (l ⨾ m)
+then-tells l m zero j p q = record {
+  refused = λ n h. (
+    λ e. inr (p .done .0 refl, q .refused n h .0 e),
+    ⊎-elim (λ f. absurd (omega (arith, h, p .refused n h .1 f))) (λ f. q .refused n h .1 (f .1)),
+  );
+  done = (λ e. (p .done .0 refl, q .done .0 e), λ a. q .done .1 (a .1));
+}
+then-tells l m (suc k) j p q = record {
+  refused = λ n h. (
+    λ e. inl (p .refused n h .0 e),
+    ⊎-elim (λ f. p .refused n h .1 f) (λ f. absurd (suc-ne-zero k (p .done .1 (f .0)))),
+  );
+  done = (λ e. absurd (suc-ne-zero k e), λ a. absurd (suc-ne-zero k (p .done .1 (a .0))));
+}
 
--- what every line's number is
+-- one place more, after the others
+more-pass : (f : ℕ → Lines) (n : ℕ) → AllPass (table f n ⨾ f n) ↔ AllPass (table f (suc n))
+more-pass f n = (
+  λ a i h. ⊎-elim (λ e. subst (λ (j : ℕ). AllPass (f j)) (sym e) (a .1)) (λ k. a .0 i k) (eq-or-lt-of-le (le-of-suc-le-suc h)),
+  λ a. (λ i h. a i (omega (arith, h)), a n (le-refl (suc n))),
+)
 
--- of lines and then others
-pub each-append : (P : ℕ → Type 0) (l m : List Line) → Each P l → Each P m → Each P (l ++ m)
-each-append P [] m p q = q
-each-append P (x ∷ l) m p q = (p .0, each-append P l m (p .1) q)
+more-fails : (f : ℕ → Lines) (n m : ℕ) → FailsFirst (table f n ⨾ f n) m ↔ FailsFirst (table f (suc n)) m
+more-fails f n m = (
+  ⊎-elim (λ x. (x .0, omega (arith, x .1), x .2, x .3)) (λ x. (n, le-refl (suc n), x .0, x .1)),
+  λ x. ⊎-elim (λ e. inr (subst (λ (j : ℕ). ((i : ℕ) → i < j → AllPass (f i)) × FailsFirst (f j) m) e (x .2, x .3)))
+      (λ h. inl (x .0, h, x .2, x .3)) (eq-or-lt-of-le (le-of-suc-le-suc (x .1))),
+)
 
--- of lists of lines that stand in turn
-pub each-in-turn : (P : ℕ → Type 0) (f : ℕ → List Line) (n : ℕ) → ((i : ℕ) → Each P (f i)) → Each P (inTurn f n)
-unfolding inTurn
-each-in-turn P f zero p = tt
-each-in-turn P f (suc n) p = each-append P (inTurn f n) (f n) (each-in-turn P f n p) (p n)
+table-tells : (f : ℕ → Lines) (n : ℕ) → ((i : ℕ) → Tells (firstOf (f i)) (f i)) → Tells (firstOf (table f n)) (table f n)
+unfolding inOrder
+table-tells f zero each = record {
+  refused = λ n h. (λ e. absurd (omega (arith, h, e)), λ x. absurd (not-suc-le-zero (x .1)));
+  done = (λ e i h. absurd (not-suc-le-zero h), λ a. refl);
+}
+table-tells f (suc n) each =
+    let both = then-tells (table f n) (f n) _ _ (table-tells f n each) (each n) in
+    record {
+      refused = λ m h. (
+        λ e. more-fails f n m .0 (both .refused m h .0 e),
+        λ x. both .refused m h .1 (more-fails f n m .1 x),
+      );
+      done = (λ e. more-pass f n .0 (both .done .0 e), λ a. both .done .1 (more-pass f n .1 a));
+    }
 
--- the number of the line that fails first is so too
-pub fails-so : (P : ℕ → Type 0) (l : List Line) {n : ℕ} → Each P l → FailsFirst l n → P n
-fails-so P [] p f = absurd f
-fails-so P (x ∷ l) p (inl f) = subst P (f .1) (p .0)
-fails-so P (x ∷ l) p (inr f) = fails-so P l (p .1) (f .1)
+-- the theorem: of any lines without the number 0, in which a number may stand several times
+pub told : (l : Lines) → Without 0 l → Tells (firstOf l) l
+told nothing p = record {
+  refused = λ n h. (λ e. absurd (omega (arith, h, e)), λ f. absurd f);
+  done = (λ e. tt, λ a. refl);
+}
+told (line number passes) p = line-tells number passes p
+told (l ⨾ m) p = then-tells l m (firstOf l) (firstOf m) (told l (p .0)) (told m (p .1))
+told (table f n) p = table-tells f n (λ i. told (f i) (p i))
+
+-- where all pass, the number is 0
+pub all-zero : (l : Lines) → AllPass l → firstOf l ≡ 0
+all-zero nothing a = refl
+all-zero (line number passes) a = check-passes passes number a
+all-zero (l ⨾ m) a = then-on (firstOf l) (firstOf m) (all-zero l (a .0)) ∙ all-zero m (a .1)
+all-zero (table f n) a = in-order-all (λ i. firstOf (f i)) n (λ i h. all-zero (f i) (a i h))
 
 -- where all pass, none fails
-pub all-or-fails : (l : List Line) (n : ℕ) → AllPass l → FailsFirst l n → ⊥
-all-or-fails [] n a f = f
-all-or-fails (x ∷ l) n a (inl f) = subst T (f .0) (a .0)
-all-or-fails (x ∷ l) n a (inr f) = all-or-fails l n (a .1) (f .1)
+pub all-or-fails : (l : Lines) (n : ℕ) → AllPass l → FailsFirst l n → ⊥
+all-or-fails nothing n a f = f
+all-or-fails (line number passes) n a f = subst T (f .0) a
+all-or-fails (l ⨾ m) n a f = ⊎-elim (λ g. all-or-fails l n (a .0) g) (λ g. all-or-fails m n (a .1) (g .1)) f
+all-or-fails (table f k) n a x = all-or-fails (f (x .0)) n (a (x .0) (x .1)) (x .3)
 
--- lines and then others
+-- which numbers it can be
 
--- all pass exactly when the lines and the others do
-pub all-append : (l m : List Line) → AllPass (l ++ m) ↔ (AllPass l × AllPass m)
-all-append [] m = (λ a. (tt, a), λ a. a .1)
-all-append (x ∷ l) m =
-    let rest = all-append l m in
-    (λ a. ((a .0, rest .0 (a .1) .0), rest .0 (a .1) .1), λ a. (a .0 .0, rest .1 (a .0 .1, a .1)))
+-- what holds of every line's number holds of the one that fails first
+fails-so : (so : ℕ → Bool) (l : Lines) (n : ℕ) → Each so l → FailsFirst l n → T (so n)
+fails-so so nothing n p f = absurd f
+fails-so so (line number passes) n p f = subst (λ (m : ℕ). T (so m)) (f .1) p
+fails-so so (l ⨾ m) n p f = ⊎-elim (λ g. fails-so so l n (p .0) g) (λ g. fails-so so m n (p .1) (g .1)) f
+fails-so so (table f k) n p x = fails-so so (f (x .0)) n (p (x .0)) (x .3)
 
--- where lines and then others pass, the lines do
-pub all-front : (l m : List Line) → AllPass (l ++ m) → AllPass l
-all-front l m a = all-append l m .0 a .0
-
--- a test fails first among the lines, or they pass and it fails first among the others
-pub fails-append : (l m : List Line) (n : ℕ) → FailsFirst (l ++ m) n ↔ (FailsFirst l n ⊎ (AllPass l × FailsFirst m n))
-fails-append [] m n = (λ f. inr (tt, f), ⊎-elim (λ f. absurd f) (λ f. f .1))
-fails-append (x ∷ l) m n =
-    let rest = fails-append l m n in (
-      ⊎-elim (λ f. inl (inl f)) (λ f. ⊎-elim (λ g. inl (inr (f .0, g))) (λ g. inr ((f .0, g .0), g .1)) (rest .0 (f .1))),
-      ⊎-elim (⊎-elim inl (λ f. inr (f .0, rest .1 (inl (f .1))))) (λ f. inr (f .0 .0, rest .1 (inr (f .0 .1, f .1)))),
-    )
-
--- of lists of lines that stand in turn: it fails first in one of them, and the earlier ones pass
-pub fails-in-turn : (f : ℕ → List Line) (n m : ℕ) →
-    FailsFirst (inTurn f n) m ↔ ((j : ℕ) × (j < n) × AllPass (inTurn f j) × FailsFirst (f j) m)
-unfolding inTurn
-fails-in-turn f zero m = (λ x. absurd x, λ x. absurd (not-suc-le-zero (x .1)))
-fails-in-turn f (suc n) m =
-    let rest = fails-in-turn f n m in
-    let both = fails-append (inTurn f n) (f n) m in (
-      λ x. ⊎-elim (λ y. let z = rest .0 y in (z .0, omega (arith, z .1), z .2, z .3)) (λ y. (n, le-refl (suc n), y .0, y .1)) (both .0 x),
-      λ x. both .1
-          (⊎-elim (λ e. inr (subst (λ (j : ℕ). AllPass (inTurn f j) × FailsFirst (f j) m) e (x .2, x .3)))
-          (λ h. inl (rest .1 (x .0, h, x .2, x .3))) (eq-or-lt-of-le (le-of-suc-le-suc (x .1)))),
-    )
-
--- exactly when
-
--- the number of the first that fails is n exactly when a test of number n fails and every earlier one passes
-first-fails : (l : List Line) → Each (λ m. 0 < m) l → (n : ℕ) → 0 < n → (firstOf l ≡ n) ↔ FailsFirst l n
-first-fails [] p n h = (λ e. absurd (not-suc-le-zero (subst (λ (m : ℕ). 0 < m) (sym e) h)), λ f. absurd f)
-first-fails (x ∷ l) p n h = go (x .passes) (x .number) (p .0) (first-fails l (p .1) n h)
-  where
-    go : (b : Bool) (k : ℕ) → 0 < k → (firstOf l ≡ n) ↔ FailsFirst l n →
-        (check b k then firstOf l ≡ n) ↔ (((b ≡ false) × (k ≡ n)) ⊎ (T b × FailsFirst l n))
-    go true k q rest = (λ e. inr (tt, rest .0 e), ⊎-elim (λ f. absurd (subst T (f .0) tt)) (λ f. rest .1 (f .1)))
-    go false zero q rest = absurd (not-suc-le-zero q)
-    go false (suc k) q rest = (λ e. inl (refl, e), ⊎-elim (λ f. f .1) (λ f. absurd (f .0)))
-
--- it is 0 exactly when all pass
-first-passes : (l : List Line) → Each (λ m. 0 < m) l → (firstOf l ≡ 0) ↔ AllPass l
-first-passes [] p = (λ e. tt, λ a. refl)
-first-passes (x ∷ l) p = go (x .passes) (x .number) (p .0) (first-passes l (p .1))
-  where
-    go : (b : Bool) (k : ℕ) → 0 < k → (firstOf l ≡ 0) ↔ AllPass l → (check b k then firstOf l ≡ 0) ↔ (T b × AllPass l)
-    go true k q rest = (λ e. (tt, rest .0 e), λ a. rest .1 (a .1))
-    go false zero q rest = absurd (not-suc-le-zero q)
-    go false (suc k) q rest = (λ e. absurd (suc-ne-zero k e), λ a. absurd (a .0))
-
--- so an answer that is the number of the first that fails tells its lines
-pub tells : (l : List Line) {answer : ℕ} → Each (λ m. 0 < m) l → answer ≡ firstOf l → Tells answer l
-tells l p e =
-    subst (λ (n : ℕ). Tells n l) (sym e) (record { refused = first-fails l p; done = first-passes l p })
-
--- a number that has one line alone
-
--- no test of number n fails among lines of other numbers
-pub none-fails : (n : ℕ) (l : List Line) → Each (Other n) l → FailsFirst l n → ⊥
-none-fails n l p f = fails-so (Other n) l p f refl
-
--- it is the first to fail exactly when every earlier line passes and it fails
-pub fails-at : (before : List Line) (n : ℕ) (passes : Bool) (after : List Line) →
-    Each (Other n) before → Each (Other n) after →
-    FailsFirst (before ++ line n passes ∷ after) n ↔ (AllPass before × (passes ≡ false))
-fails-at before n passes after p q =
-    let both = fails-append before (line n passes ∷ after) n in (
-      λ f. ⊎-elim (λ g. absurd (none-fails n before p g))
-          (λ g. (g .0, ⊎-elim (λ h. h .0) (λ h. absurd (none-fails n after q (h .1))) (g .1))) (both .0 f),
-      λ a. both .1 (inr (a .0, inl (a .1, refl))),
-    )
-
--- the answer is that number exactly then
-pub tells-at : {answer : ℕ} {lines : List Line} → Tells answer lines → (before : List Line) (n : ℕ) (passes : Bool) (after : List Line) →
-    lines ≡ before ++ line n passes ∷ after → 0 < n → Each (Other n) before → Each (Other n) after →
-    (answer ≡ n) ↔ (AllPass before × (passes ≡ false))
-tells-at {answer = answer} told before n passes after e h p q =
-    let here = subst (λ (l : List Line). Tells answer l) e told .refused n h in
-    let alone = fails-at before n passes after p q in
-    (λ d. alone .0 (here .0 d), λ a. here .1 (alone .1 a))
-
--- a number that none of the later lines has
-
--- it is the first to fail exactly when it is the first to fail of the earlier lines
-pub fails-front : (l m : List Line) (n : ℕ) → Each (Other n) m → FailsFirst (l ++ m) n ↔ FailsFirst l n
-fails-front l m n p =
-    let both = fails-append l m n in
-    (λ f. ⊎-elim (λ g. g) (λ g. absurd (none-fails n m p (g .1))) (both .0 f), λ f. both .1 (inl f))
-
--- so the answer is that number exactly when the answer by the earlier lines alone is
-pub tells-front : {answer earlier : ℕ} (l m : List Line) → Tells answer (l ++ m) → Tells earlier l → (n : ℕ) → 0 < n →
-    Each (Other n) m → (answer ≡ n) ↔ (earlier ≡ n)
-tells-front l m told front n h p =
-    let same = fails-front l m n p in (
-      λ e. front .refused n h .1 (same .0 (told .refused n h .0 e)),
-      λ e. told .refused n h .1 (same .1 (front .refused n h .0 e)),
-    )
-
--- a number that none of the lines after a table has; a table is lists of lines that stand in turn, one for each entry
-
--- the answer is that number exactly when it is the first to fail before the table, or of one entry and all before that entry pass
-pub tells-table : {answer : ℕ} {lines : List Line} → Tells answer lines → (front : List Line) (f : ℕ → List Line) (count : ℕ)
-    (after : List Line) (n : ℕ) → lines ≡ front ++ inTurn f count ++ after → 0 < n → Each (Other n) after →
-    (answer ≡ n) ↔ (FailsFirst front n ⊎ ((j : ℕ) × (j < count) × AllPass (front ++ inTurn f j) × FailsFirst (f j) n))
-tells-table {answer = answer} told front f count after n e h p =
-    let here = subst (λ (l : List Line). Tells answer l) e told .refused n h in
-    let within = fails-front (front ++ inTurn f count) after n p in
-    let both = fails-append front (inTurn f count) n in
-    let entry = fails-in-turn f count n in (
-      λ d. ⊎-elim inl
-          (λ a. let x = entry .0 (a .1) in inr (x .0, x .1, all-append front (inTurn f (x .0)) .1 (a .0, x .2), x .3))
-          (both .0 (within .0 (here .0 d))),
-      λ a. here .1
-          (within .1
-          (both .1
-          (⊎-elim inl
-          (λ x. let y = all-append front (inTurn f (x .0)) .0 (x .2) in inr (y .0, entry .1 (x .0, x .1, y .1, x .3))) a))),
-    )
-
--- where each entry has one line alone of that number: or that line of one entry fails and all before it pass
-pub tells-table-at : {answer : ℕ} {lines : List Line} → Tells answer lines → (front : List Line) (f : ℕ → List Line) (count : ℕ)
-    (after : List Line) (n : ℕ) → lines ≡ front ++ inTurn f count ++ after → 0 < n → Each (Other n) after →
-    (to here later : ℕ → List Line) (passes : ℕ → Bool) →
-    ((j : ℕ) → f j ≡ here j ++ line n (passes j) ∷ later j) → ((j : ℕ) → to j ≡ front ++ inTurn f j ++ here j) →
-    ((j : ℕ) → Each (Other n) (here j)) → ((j : ℕ) → Each (Other n) (later j)) →
-    (answer ≡ n) ↔ (FailsFirst front n ⊎ ((j : ℕ) × (j < count) × AllPass (to j) × (passes j ≡ false)))
-tells-table-at told front f count after n e h p to here later passes entry up-to q r =
-    let table = tells-table told front f count after n e h p in
-    let alone : (j : ℕ) → FailsFirst (f j) n ↔ (AllPass (here j) × (passes j ≡ false)) =
-    λ j. rw (entry j) (fails-at (here j) n (passes j) (later j) (q j) (r j)) in
-    let both : (j : ℕ) → AllPass (to j) ↔ (AllPass (front ++ inTurn f j) × AllPass (here j)) =
-    λ j. rw (up-to j) (all-append (front ++ inTurn f j) (here j)) in (
-      λ d. ⊎-elim inl
-          (λ x. let y = alone (x .0) .0 (x .3) in inr (x .0, x .1, both (x .0) .1 (x .2, y .0), y .1)) (table .0 d),
-      λ a. table .1
-          (⊎-elim inl (λ x. let y = both (x .0) .0 (x .2) in inr (x .0, x .1, y .0, alone (x .0) .1 (y .1, x .3))) a),
-    )
-
--- which numbers an answer can be
-
--- an answer is what 0 and every line's number are
-pub tells-so : (P : ℕ → Type 0) {answer : ℕ} {lines : List Line} → Tells answer lines → Each P lines → P 0 → P answer
-tells-so P {answer = zero} told each zero-so = zero-so
-tells-so P {answer = suc n} {lines = lines} told each zero-so = fails-so P lines each (told .refused (suc n) (zero-lt-suc n) .0 refl)
+-- so a number that fails first, and stands in none of the first lines, fails first in the others
+pub later : (n : ℕ) (l m : Lines) → Without n l → FailsFirst (l ⨾ m) n → AllPass l × FailsFirst m n
+later n l m p =
+    ⊎-elim (λ f. absurd (subst (λ (b : Bool). T (not b)) (eq-eqb n n refl) (fails-so (λ m. not (eqb m n)) l n p f))) (λ f. f)
 
 -- whether a number is one of those listed
-abbrev among : List ℕ → ℕ → Bool
+abbrev pub among : List ℕ → ℕ → Bool
 among [] n = false
 among (m ∷ l) n = eqb n m || among l n
 
--- where the test says so, it is
-pub one-of : (l : List ℕ) (n : ℕ) → T (among l n) → OneOf l n
+one-of : (l : List ℕ) (n : ℕ) → T (among l n) → OneOf l n
 one-of [] n t = t
 one-of (m ∷ l) n t = go (eqb n m) refl (one-of l n) t
   where
@@ -233,10 +136,73 @@ one-of (m ∷ l) n t = go (eqb n m) refl (one-of l n) t
     go true e rest t = inl (eqb-true n m e)
     go false e rest t = inr (rest t)
 
--- where it says so of all the numbers from one to another, they are
-pub one-of-range : (l : List ℕ) (lowest highest : ℕ) → T (everywhere (λ i. among l (lowest + i)) (suc highest - lowest)) →
-    (m : ℕ) → lowest ≤ m → m ≤ highest → OneOf l m
-one-of-range l lowest highest t m h k =
-    let same : lowest + (m - lowest) ≡ m = omega arith in
-    subst (OneOf l) same
-    (one-of l (lowest + (m - lowest)) (everywhere-at (λ i. among l (lowest + i)) (suc highest - lowest) t (m - lowest) (omega arith)))
+-- an answer is 0 or one of its lines' numbers
+gives : (numbers : List ℕ) {answer : ℕ} {l : Lines} → Each (among numbers) l → Tells answer l → OneOf (0 ∷ numbers) answer
+gives numbers {answer = zero} p t = inl refl
+gives numbers {answer = suc k} {l = l} p t =
+    inr (one-of numbers (suc k) (fails-so (among numbers) l (suc k) p (t .refused (suc k) (zero-lt-suc k) .0 refl)))
+
+-- a number other than another, and a test that holds and does not
+
+other : (m n : ℕ) → (m ≡ n → ⊥) → T (not (eqb m n))
+other m n d = rw (ne-eqb m n d) tt
+
+both : (b : Bool) → T (not b) → T b → ⊥
+both true x y = x
+both false x y = y
+
+-- lines of listed numbers are without one that is not listed
+without : (numbers : List ℕ) (n : ℕ) → T (not (among numbers n)) → (l : Lines) → Each (among numbers) l → Without n l
+without numbers n unlisted nothing p = tt
+without numbers n unlisted (line number passes) p =
+    other number n (λ e. both (among numbers n) unlisted (subst (λ (m : ℕ). T (among numbers m)) e p))
+without numbers n unlisted (l ⨾ m) p = (without numbers n unlisted l (p .0), without numbers n unlisted m (p .1))
+without numbers n unlisted (table f k) p = λ i. without numbers n unlisted (f i) (p i)
+
+-- both at once: an answer that is the number of the first line that fails
+pub answers : (numbers : List ℕ) → T (not (among numbers 0)) → (l : Lines) → Each (among numbers) l → {answer : ℕ} → answer ≡ firstOf l →
+    Answers answer l numbers
+answers numbers positive l p e =
+    let tells = subst (λ (n : ℕ). Tells n l) (sym e) (told l (without numbers 0 positive l p)) in
+    record { tells = tells; gives = gives numbers p tells }
+
+-- where 12 comes after the lines
+
+-- the number is that of the first line that fails or, where all pass, by the value
+abbrev pub NumberedOr12 : (refusal answer : ℕ) → (Option ℕ → Type 0) → Type 0
+NumberedOr12 zero answer Is = (r : Option ℕ) × Is r × (answer ≡ number12 r)
+NumberedOr12 (suc refusal) answer Is = answer ≡ suc refusal
+
+module _ (numbers : List ℕ) (positive : T (not (among numbers 0))) (no-12 : T (not (among numbers 12))) (l : Lines)
+    (p : Each (among numbers) l) (Is : Option ℕ → Type 0) (one : (v : ℕ) → Is none → Is (some v) → ⊥) where
+  by-value : {answer : ℕ} → AllPass l → (r : Option ℕ) → Is r → answer ≡ number12 r → AnswersOr12 answer l Is numbers
+  by-value all none right e = record {
+    refused = λ n h other. (λ d. absurd (other (sym d ∙ e)), λ f. absurd (all-or-fails l n all f));
+    twelve = (λ d. (all, right), λ q. e);
+    done = (λ d. absurd (omega arith), λ q. absurd (one (q .1) right (q .2)));
+    gives = inr (inl e);
+  }
+  by-value all (some v) right e = record {
+    refused = λ n h other. (λ d. absurd (omega arith), λ f. absurd (all-or-fails l n all f));
+    twelve = (λ d. absurd (omega arith), λ q. absurd (one v (q .1) right));
+    done = (λ d. (all, v, right), λ q. e);
+    gives = inl e;
+  }
+
+  by-line : (refusal : ℕ) → Answers (suc refusal) l numbers → AnswersOr12 (suc refusal) l Is numbers
+  by-line refusal a =
+      let never : AllPass l → ⊥ = λ all. suc-ne-zero refusal (a .tells .done .1 all) in
+      record {
+        refused = λ n h other. a .tells .refused n h;
+        twelve = (
+          λ e. absurd (later 12 l nothing (without numbers 12 no-12 l p) (inl (a .tells .refused 12 (omega arith) .0 e)) .1),
+          λ q. absurd (never (q .0)),
+        );
+        done = (λ e. absurd (suc-ne-zero refusal e), λ q. absurd (never (q .0)));
+        gives = ⊎-elim inl (λ o. inr (inr o)) (a .gives);
+      }
+
+  pub answers-or-12 : (refusal : ℕ) → refusal ≡ firstOf l → {answer : ℕ} → NumberedOr12 refusal answer Is → AnswersOr12 answer l Is numbers
+  answers-or-12 zero e (r, right, is) = by-value (answers numbers positive l p e .tells .done .0 refl) r right is
+  answers-or-12 (suc refusal) e is =
+      subst (λ (n : ℕ). AnswersOr12 n l Is numbers) (sym is) (by-line refusal (answers numbers positive l p e))

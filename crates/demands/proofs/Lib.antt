@@ -7,9 +7,7 @@ pub mod PairedPlans
 pub mod Worked
 pub mod InOrder
 pub mod SheetInOrder
-pub mod StepperInOrder
 pub mod ReadInOrder
-pub mod PlanInOrder
 pub mod Demand1
 pub mod Listing
 pub mod Hopeless

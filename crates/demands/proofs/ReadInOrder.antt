@@ -11,15 +11,13 @@ use lib.Dec.{leb, ltb, eqb}
 use lib.ListN.{length, getD}
 use Rattle.model.specs.Counted.{Counted, sheetOf, inMemory, zeroSheet, zeroSpeed, zeroJob}
 use Rattle.model.specs.Reading.{_>>=_, _>>_, Answer, value, refused, Reader, onward, done, test, refuse, joined, numberIn, field, readSpeed, readSpeeds, readSpeedTable, readJob, readJobs, readJobTable, ended, judged, readCounted, readAnswer, read}
-use Rattle.model.specs.Refusal.{boundRight, speedCountRight, speedRight, energyRight, horizonRight, jobCountRight, weightRight, sizeRight, deadlineRight, limitsRefusal, N}
-use Rattle.model.specs.Tests.{check, _then_, inOrder, listed}
+use Rattle.model.specs.Refusal.{boundRight, speedCountRight, speedRight, energyRight, horizonRight, jobCountRight, weightRight, sizeRight, deadlineRight, speedField, jobField, linesOfSpeed, linesOfJob, speedsLines, jobsLines, fieldLines, limitLines, limitsRefusal, N}
+use Rattle.model.specs.Tests.{check, _then_, line, _⨾_, firstOf, inOrder, listed}
 use Rattle.model.specs.declared.Job.{Job}
 use Rattle.model.specs.declared.Speed.{Speed}
 use Rattle.model.proofs.Readers.{Positive, number-positive, tested, headed, shift}
 use Rattle.model.proofs.Tests.{length-listed, getD-listed, then-then, then-nothing, in-order-front, in-order-same}
-use Rattle.demands.specs.Numbers.{line, Tells, speedField, jobField, fieldLines, limitLines, valueOf, nextOf, placeOfNumber, fieldOf, speedIn, jobIn, sheetIn, endOf, stands, isLast, whole, shortest, reading, readLines}
-use Rattle.demands.proofs.InOrder.{firstOf, first-append, each-append, tells}
-use Rattle.demands.proofs.SheetInOrder.{numberOfSpeed, numberOfJob, numberOfFields, first-of-fields, first-of-limits, fields-numbers}
+use Rattle.demands.specs.Numbers.{valueOf, nextOf, placeOfNumber, fieldOf, speedIn, jobIn, sheetIn, endOf, endLine, stands, isLast, whole, shortest, reading, readLines}
 
 -- one number
 
@@ -37,20 +35,20 @@ past bytes at = go (ltb at (length bytes)) refl
     go false e = le-leb (length bytes) at (ltb-false at (length bytes) e)
 
 -- a last byte of 0 after others is refused with 2
-zero-refused : (z : Bool) (x next : ℕ) → refusalOf (cond z (refused 2) (value x next)) ≡ check (not z) 2 then 0
+zero-refused : (z : Bool) (x next : ℕ) → refusalOf (cond z (refused 2) (value x next)) ≡ check (not z) 2
 zero-refused true x next = refl
 zero-refused false x next = refl
 
 -- and no other is: what stands above the lowest group of seven bits is not 0 then
 third-refused : (low group byte next : ℕ) (z : Bool) → eqb byte 0 ≡ z →
-    refusalOf (joined low (cond z (refused 2) (value (group + 128 * byte) next))) ≡ check (not z) 2 then 0
+    refusalOf (joined low (cond z (refused 2) (value (group + 128 * byte) next))) ≡ check (not z) 2
 third-refused low group byte next true e = refl
 third-refused low group byte next false e =
     let other : group + 128 * byte ≡ 0 → ⊥ = λ d. eqb-false byte 0 e (omega arith) in
     rw (ne-eqb (group + 128 * byte) 0 other)
 
 -- reading a number is refused with 1 where it is not whole, else with 2 where it is not in shortest form
-field-number : (bytes : List ℕ) (at : ℕ) → refusalOf (field bytes at) ≡ check (whole bytes at) 1 then check (shortest bytes at) 2 then 0
+field-number : (bytes : List ℕ) (at : ℕ) → refusalOf (field bytes at) ≡ check (whole bytes at) 1 then check (shortest bytes at) 2
 unfolding numberIn whole shortest
 field-number bytes at =
     rw (past bytes at, past bytes (suc at), past bytes (suc (suc at)))
@@ -66,7 +64,7 @@ field-number bytes at =
         (cond d (value y (suc (suc at)))
         (joined (y - 128)
         (cond (not e) (refused 1) (cond f (value z (suc (suc (suc at)))) (joined (z - 128) (refused 2)))))))))) ≡
-        check (a && cond b true (c && cond d true e)) 1 then check (cond b true (cond d (not (eqb y 0)) (f && not (eqb z 0)))) 2 then 0
+        check (a && cond b true (c && cond d true e)) 1 then check (cond b true (cond d (not (eqb y 0)) (f && not (eqb z 0)))) 2
     go x y z false b c d e f = refl
     go x y z true true c d e f = refl
     go x y z true false false d e f = refl
@@ -114,12 +112,12 @@ refuse-gives zero bytes at = record { answer = refl }
 refuse-gives (suc number) bytes at = record { answer = refl }
 
 -- the number of the two lines of reading number k
-unfoldable ahead : List ℕ → ℕ → ℕ
-ahead bytes k = firstOf (reading bytes k)
+abbrev numberOfReading : List ℕ → ℕ → ℕ
+numberOfReading bytes k = firstOf (reading bytes k)
 
 -- number k of the bytes, read where it begins
-field-gives : (bytes : List ℕ) (k : ℕ) → Gives (field bytes (placeOfNumber bytes k)) (ahead bytes k) (fieldOf bytes k) (placeOfNumber bytes (suc k))
-unfolding placeOfNumber fieldOf ahead
+field-gives : (bytes : List ℕ) (k : ℕ) → Gives (field bytes (placeOfNumber bytes k)) (numberOfReading bytes k) (fieldOf bytes k) (placeOfNumber bytes (suc k))
+unfolding placeOfNumber fieldOf
 field-gives bytes k =
     let at = placeOfNumber bytes k in
     subst (λ (n : ℕ). Gives (field bytes at) n (fieldOf bytes k) (placeOfNumber bytes (suc k))) (field-number bytes at)
@@ -129,14 +127,14 @@ field-gives bytes k =
 tested-gives : {B : Type 0} (bytes : List ℕ) (k : ℕ) (right : ℕ → Bool) (number : ℕ) (more : ℕ → Reader B) {m : ℕ} {b : B} {next : ℕ} →
     Gives (more (fieldOf bytes k) bytes (placeOfNumber bytes (suc k))) m b next →
     Gives (tested right (suc number) more bytes (placeOfNumber bytes k))
-    (ahead bytes k then check (right (fieldOf bytes k)) (suc number) then m) b next
+    (numberOfReading bytes k then check (right (fieldOf bytes k)) (suc number) then m) b next
 tested-gives bytes k right number more rest =
     then-gives _ (field-gives bytes k) (then-gives _ (test-gives (right (fieldOf bytes k)) number bytes (placeOfNumber bytes (suc k))) rest)
 
 -- the last number of an entry
 last-gives : {B : Type 0} (bytes : List ℕ) (k : ℕ) (right : ℕ → Bool) (number : ℕ) (entry : ℕ → B) →
     Gives (tested right (suc number) (λ x. done (entry x)) bytes (placeOfNumber bytes k))
-    (ahead bytes k then check (right (fieldOf bytes k)) (suc number)) (entry (fieldOf bytes k)) (placeOfNumber bytes (suc k))
+    (numberOfReading bytes k then check (right (fieldOf bytes k)) (suc number)) (entry (fieldOf bytes k)) (placeOfNumber bytes (suc k))
 last-gives bytes k right number entry =
     simp then-nothing at
     (tested-gives bytes k right number (λ x. done (entry x)) (done-gives (entry (fieldOf bytes k)) bytes (placeOfNumber bytes (suc k))))
@@ -166,10 +164,18 @@ module _ {A : Type 0} (zeros : A) (entry : ℕ → A) (place number : ℕ → �
   table-gives : (n : ℕ) → Gives (all n 0 zeros bytes (place 0)) (inOrder number n) (listed entry n) (place n)
   table-gives n = simp zero-add at (entries-give n 0)
 
+-- the number of a speed at place j, after the speed `before`
+abbrev numberOfSpeed : List ℕ → ℕ → Speed → Speed → ℕ
+numberOfSpeed bytes j before one = firstOf (linesOfSpeed (reading bytes) j (before .speed) (one .speed) (one .energy))
+
+-- of a job whose weight is number k
+abbrev numberOfJob : List ℕ → ℕ → ℕ → Job → ℕ
+numberOfJob bytes D k one = firstOf (linesOfJob (reading bytes) k D (one .weight) (one .size) (one .deadline))
+
 -- a speed and its energy
 speed-gives : (bytes : List ℕ) (j : ℕ) →
     Gives (readSpeed j (previous zeroSpeed (speedIn bytes) j .speed) bytes (placeOfNumber bytes (speedField j)))
-    (numberOfSpeed (ahead bytes) j (previous zeroSpeed (speedIn bytes) j) (speedIn bytes j)) (speedIn bytes j)
+    (numberOfSpeed bytes j (previous zeroSpeed (speedIn bytes) j) (speedIn bytes j)) (speedIn bytes j)
     (placeOfNumber bytes (speedField (suc j)))
 unfolding readSpeed
 speed-gives bytes j =
@@ -183,7 +189,7 @@ speed-gives bytes j =
 -- so many speeds
 speeds-give : (bytes : List ℕ) (n : ℕ) →
     Gives (readSpeeds n 0 0 bytes (placeOfNumber bytes 2))
-    (inOrder (λ j. numberOfSpeed (ahead bytes) j (previous zeroSpeed (speedIn bytes) j) (speedIn bytes j)) n) (listed (speedIn bytes) n)
+    (inOrder (λ j. numberOfSpeed bytes j (previous zeroSpeed (speedIn bytes) j) (speedIn bytes j)) n) (listed (speedIn bytes) n)
     (placeOfNumber bytes (speedField n))
 unfolding readSpeeds
 speeds-give bytes n =
@@ -192,7 +198,7 @@ speeds-give bytes n =
 
 -- a job, after n speeds
 job-gives : (bytes : List ℕ) (D n i : ℕ) →
-    Gives (readJob D bytes (placeOfNumber bytes (jobField n i))) (numberOfJob (ahead bytes) D (jobField n i) (jobIn bytes n i)) (jobIn bytes n i)
+    Gives (readJob D bytes (placeOfNumber bytes (jobField n i))) (numberOfJob bytes D (jobField n i) (jobIn bytes n i)) (jobIn bytes n i)
     (placeOfNumber bytes (jobField n (suc i)))
 unfolding readJob
 job-gives bytes D n i =
@@ -208,7 +214,7 @@ job-gives bytes D n i =
 -- so many jobs
 jobs-give : (bytes : List ℕ) (D n m : ℕ) →
     Gives (readJobs D m bytes (placeOfNumber bytes (jobField n 0)))
-    (inOrder (λ i. numberOfJob (ahead bytes) D (jobField n i) (jobIn bytes n i)) m) (listed (jobIn bytes n) m)
+    (inOrder (λ i. numberOfJob bytes D (jobField n i) (jobIn bytes n i)) m) (listed (jobIn bytes n) m)
     (placeOfNumber bytes (jobField n m))
 unfolding readJobs
 jobs-give bytes D n m =
@@ -217,8 +223,8 @@ jobs-give bytes D n m =
 
 -- the number of a speed is that of the speed in the table of n speeds
 speed-same : (bytes : List ℕ) (n j : ℕ) → j < n →
-    numberOfSpeed (ahead bytes) j (previous zeroSpeed (speedIn bytes) j) (speedIn bytes j) ≡
-    numberOfSpeed (ahead bytes) j (getD (listed (speedIn bytes) n) (pred j) zeroSpeed) (getD (listed (speedIn bytes) n) j zeroSpeed)
+    numberOfSpeed bytes j (previous zeroSpeed (speedIn bytes) j) (speedIn bytes j) ≡
+    numberOfSpeed bytes j (getD (listed (speedIn bytes) n) (pred j) zeroSpeed) (getD (listed (speedIn bytes) n) j zeroSpeed)
 speed-same bytes n zero h = rw (getD-listed (speedIn bytes) n 0 zeroSpeed h)
 speed-same bytes n (suc j) h =
     let before = getD-listed (speedIn bytes) n j zeroSpeed (omega arith) in
@@ -259,18 +265,17 @@ module _ (bytes : List ℕ) where
   job-table-gives :
       let s = sheetIn bytes in
       Gives (readJobTable (s .bound) bytes (placeOfNumber bytes (suc (speedField (s .speedCount)))))
-      (ahead bytes (suc (speedField (s .speedCount))) then
-      check (jobCountRight (s .jobCount)) 8 then
-      inOrder (λ i. numberOfJob (ahead bytes) (s .bound) (jobField (s .speedCount) i) (getD (s .jobs) i zeroJob)) (s .jobCount))
+      (firstOf
+      (reading bytes (suc (speedField (s .speedCount))) ⨾ line 8 (jobCountRight (s .jobCount)) ⨾ jobsLines (reading bytes) s (s .jobCount)))
       (s .jobs) (endOf bytes)
-  unfolding readJobTable sheetIn
+  unfolding readJobTable sheetIn jobsLines
   job-table-gives =
       let D = fieldOf bytes 0 in
       let n = fieldOf bytes 1 in
       let m = fieldOf bytes (suc (speedField n)) in
       let first : jobField n 0 ≡ suc (suc (speedField n)) = omega arith in
-      let same = in-order-same _ (λ i. numberOfJob (ahead bytes) D (jobField n i) (getD (listed (jobIn bytes n) m) i zeroJob)) m
-      (λ i h. ap (numberOfJob (ahead bytes) D (jobField n i)) (sym (getD-listed (jobIn bytes n) m i zeroJob h))) in
+      let same = in-order-same _ (λ i. numberOfJob bytes D (jobField n i) (getD (listed (jobIn bytes n) m) i zeroJob)) m
+      (λ i h. ap (numberOfJob bytes D (jobField n i)) (sym (getD-listed (jobIn bytes n) m i zeroJob h))) in
       let jobs =
       subst (λ (k : ℕ). Gives (readJobs D m bytes (placeOfNumber bytes (jobField n 0))) k (listed (jobIn bytes n) m) (endOf bytes)) same
       (jobs-give bytes D n m) in
@@ -280,11 +285,9 @@ module _ (bytes : List ℕ) where
   speed-table-gives :
       let s = sheetIn bytes in
       Gives (readSpeedTable bytes (placeOfNumber bytes 1))
-      (ahead bytes 1 then
-      check (speedCountRight (s .speedCount)) 5 then
-      inOrder (λ j. numberOfSpeed (ahead bytes) j (getD (s .speeds) (pred j) zeroSpeed) (getD (s .speeds) j zeroSpeed)) (s .speedCount))
+      (firstOf (reading bytes 1 ⨾ line 5 (speedCountRight (s .speedCount)) ⨾ speedsLines (reading bytes) s (s .speedCount)))
       (s .speeds) (placeOfNumber bytes (speedField (s .speedCount)))
-  unfolding readSpeedTable sheetIn
+  unfolding readSpeedTable sheetIn speedsLines
   speed-table-gives =
       let n = fieldOf bytes 1 in
       let same = in-order-same _ _ n (speed-same bytes n) in
@@ -312,18 +315,14 @@ module _ (bytes : List ℕ) where
         jobs = s .jobs;
       }
 
-  -- the number of 3, 9 and 10, after the last field
-  abbrev numberAfter : ℕ
-  numberAfter = check (leb (length bytes) (endOf bytes)) 3 then limitsRefusal (N (sheetIn bytes)) (sheetIn bytes)
-
   -- the whole sheet
-  sheet-gives : Gives (readCounted N bytes 0) (numberOfFields (ahead bytes) (sheetIn bytes) then numberAfter) (sheetIn bytes) (endOf bytes)
-  unfolding readCounted numberOfFields sheetIn placeOfNumber
+  sheet-gives : Gives (readCounted N bytes 0) (firstOf (readLines bytes)) (sheetIn bytes) (endOf bytes)
+  unfolding readCounted readLines fieldLines speedsLines jobsLines sheetIn placeOfNumber
   sheet-gives =
       let s = sheetIn bytes in
       let sheet : List Job → Counted = λ jobs. sheetOf (s .bound) (s .speeds) (s .horizon) jobs in
       let from-end =
-      subst (λ (z : Counted). Gives (afterJobs z bytes (endOf bytes)) numberAfter s (endOf bytes)) (sym counts-same)
+      subst (λ (z : Counted). Gives (afterJobs z bytes (endOf bytes)) (firstOf (endLine bytes ⨾ limitLines (N s) s)) s (endOf bytes)) (sym counts-same)
       (after-jobs bytes s (endOf bytes)) in
       let from-jobs = then-gives (λ jobs next. afterJobs (sheet jobs) bytes next) job-table-gives from-end in
       let from-horizon = tested-gives bytes (speedField (s .speedCount)) horizonRight 6 (afterHorizon (s .bound) (s .speeds)) from-jobs in
@@ -342,29 +341,15 @@ answer-sheet : {x : Answer Counted} {n : ℕ} {s : Counted} {next : ℕ} → Giv
 answer-sheet {n = zero} g e = rw (g .answer)
 answer-sheet {n = suc n} g e = absurd (suc-ne-zero n e)
 
--- a read refuses with the number of the first line that fails
-pub read-first : (bytes : List ℕ) → read bytes .number ≡ firstOf (readLines bytes)
-unfolding read readLines ahead
-read-first bytes =
-    let s = sheetIn bytes in
-    let lines = first-append (fieldLines (reading bytes) s) (line 3 (leb (length bytes) (endOf bytes)) ∷ limitLines s) in
-    answer-number (sheet-gives bytes) ∙ sym (lines ∙ rw (first-of-fields (reading bytes) s, first-of-limits s))
-
--- so it tells its lines
-pub read-told : (bytes : List ℕ) → Tells (read bytes .number) (readLines bytes)
-unfolding readLines
-read-told bytes =
-    let positive : ℕ → Type 0 = λ m. 0 < m in
-    tells (readLines bytes)
-    (each-append positive (fieldLines (reading bytes) (sheetIn bytes)) _
-    (fields-numbers positive (reading bytes) (sheetIn bytes) (λ k. (omega arith, (omega arith, tt))) (λ m h k. omega arith))
-    (omega arith, (omega arith, (omega arith, tt))))
-    (read-first bytes)
+-- a read's number is that of the first line that fails
+pub read-number : (bytes : List ℕ) → read bytes .number ≡ firstOf (readLines bytes)
+unfolding read
+read-number bytes = answer-number (sheet-gives bytes)
 
 -- a read that is not refused gives the sheet that the numbers of the bytes are, zero in every place past its counts
 pub read-accepted : (bytes : List ℕ) → read bytes .number ≡ 0 → read bytes .sheet ≡ inMemory (sheetIn bytes)
 unfolding read
-read-accepted bytes e = answer-sheet (sheet-gives bytes) (sym (answer-number (sheet-gives bytes)) ∙ e)
+read-accepted bytes e = answer-sheet (sheet-gives bytes) (sym (read-number bytes) ∙ e)
 
 -- "A refused read gives an all-zero sheet"
 pub read-zero : (bytes : List ℕ) → (read bytes .number ≡ 0 → ⊥) → read bytes .sheet ≡ zeroSheet

@@ -11,7 +11,7 @@ use lib.Dec.{leb, leb→le}
 use lib.ListN.{length, length-append}
 use Rattle.model.specs.Bytes.{AreBytes, written}
 use Rattle.model.specs.Counted.{Counted}
-use Rattle.model.specs.Listing.{scaleOf, header, bytesListed, lineOfSlot, listing, listRefusal, list}
+use Rattle.model.specs.Listing.{scaleOf, header, bytesListed, lineOfSlot, listing, listRefusal, listLines, list}
 use Rattle.model.specs.Plan.{planNeeded}
 use Rattle.model.specs.Refusal.{sheetRefusal, N}
 use Rattle.model.proofs.Refusal.{accepted, power-fits}
@@ -24,7 +24,7 @@ use Rattle.listing.proofs.Rows.{line-length}
 
 -- what is not refused fits
 pub listing-fits : (s : Counted) (least : ℕ) (plan : List ℕ) (room : ℕ) → listRefusal s least plan room ≡ 0 → length (listing s least plan) ≤ room
-unfolding listRefusal
+unfolding listLines
 listing-fits s least plan room e =
     let enough = leb (planNeeded s) (length plan) in
     let fitting = leb (length (listing s least plan)) room in

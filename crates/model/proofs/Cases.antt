@@ -19,7 +19,7 @@ use Rattle.model.specs.Plan.{processOf, IsValueAt, IsPlanByte, queueAt, 
 use Rattle.model.specs.Queue.{Queue, emptyQueue, bearable, continuationCount}
 use Rattle.model.specs.Reading.{Answer, refused, readCounted, ReadSheet, readAnswer, read}
 use Rattle.model.specs.Reading
-use Rattle.model.specs.Refusal.{N, refusalGiven, sheetRefusal}
+use Rattle.model.specs.Refusal.{N, refusalGiven, sheetRefusal, sheetLines}
 use Rattle.model.specs.Stepper.{State, speed}
 use Rattle.model.specs.declared.Job.{Job}
 use Rattle.model.specs.declared.Sheet.{Sheet}
@@ -126,7 +126,7 @@ unfolding N quickN
 quickN-is s = queue-count (M s) (s .bound)
 
 refusal-is : (s : Counted) → sheetRefusal s ≡ refusalGiven (quickN s) s
-unfolding sheetRefusal
+unfolding sheetLines
 refusal-is s = ap (λ (n : ℕ). refusalGiven n s) (quickN-is s)
 
 read-is : (bytes : List ℕ) → read bytes ≡ readAnswer (readCounted quickN bytes 0)

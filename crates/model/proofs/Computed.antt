@@ -9,16 +9,16 @@ use lib.Dec.{eqb, ltb}
 use lib.ListN.{length, getD}
 use Rattle.process.specs.Sums.{sum, same}
 use Rattle.process.specs.Recursion.{sumOrNone, cheaper, best, priced, choice, value, plan}
-use Rattle.model.specs.Bytes.{codeIn, speedBytes, jobBytes, sheetBytes, writeRefusal, write}
+use Rattle.model.specs.Bytes.{codeIn, speedBytes, jobBytes, sheetBytes, writeLines, write}
 use Rattle.model.specs.Cases.{Case, planned, valued, decides, answers, costs, refuses, reads, views, counts, fields, steps, tells, numbers, lists, tests, casesOfA, casesOfHopeless, casesP, casesOfPlans, casesOfQueues, casesOfRefusals, casesOfBytes, casesOfSteps, casesOfListings, cases}
 use Rattle.model.specs.Counted.{Counted, counted, speedAt, weightAt, speedsOf, onSheet, energyOf, W, M, greatestEnergy, G}
-use Rattle.model.specs.Listing.{digitsIn, header, bytesListed, lineOf, listing, refusedLine, listRefusal, list}
-use Rattle.model.specs.Plan.{nextQueue, processOf, admissible, queueAt, valueIn, number12, planRefusal, rowRefusal, row}
+use Rattle.model.specs.Listing.{digitsIn, header, bytesListed, lineOf, listing, refusedLine, listLines, list}
+use Rattle.model.specs.Plan.{nextQueue, processOf, admissible, queueAt, valueIn, number12, planLines, rowLines, row}
 use Rattle.model.specs.Queue.{Queue, emptyQueue, bearable, bearableIn, run, arrive, eachTotal, continuations, bearableQueues, queueCount, placeIn, numberOf, continuationCount}
 use Rattle.model.specs.Reading.{Answer, refused, numberIn, readSpeed, readSpeeds, readSpeedTable, readJob, readJobs, readJobTable, judged, readCounted, readAnswer}
 use Rattle.model.specs.Reading
-use Rattle.model.specs.Refusal.{speedsRefusal, jobsRefusal, fieldsRefusal, refusal9, limitsRefusal, N, refusalGiven, sheetRefusal}
-use Rattle.model.specs.Stepper.{State, stateRight, startRefusal, start, planByte, byteRight, speedRefusal, speed, isEntry, moved, advanceRefusal, advance}
+use Rattle.model.specs.Refusal.{speedsLines, jobsLines, fieldLines, limitLines, N, refusalGiven, linesGiven, sheetLines}
+use Rattle.model.specs.Stepper.{State, stateRight, startLines, start, planByte, byteRight, speedLines, speed, isEntry, moved, advanceLines, advance}
 use Rattle.model.specs.declared.Job.{Job}
 use Rattle.model.specs.declared.Sheet.{Sheet}
 use Rattle.model.specs.declared.Speed.{Speed}
@@ -136,5 +136,5 @@ firstFailing place (c ∷ rest) = check (test c) (suc place) then firstFailing (
 
 -- the computation: every case passes its test
 pub cases-pass : firstFailing 0 cases ≡ 0
-unfolding cases casesP casesOfA casesOfHopeless casesOfPlans casesOfQueues casesOfRefusals casesOfBytes casesOfSteps casesOfListings firstFailing test quickN orderly byteTest decidesTest costTest rowTest sameOption sameAnswer sameState sameBy sameSpeed sameJob sameCounted sameBool sum sumOrNone cheaper best priced choice value plan codeIn speedBytes jobBytes sheetBytes writeRefusal write digitsIn header bytesListed lineOf listing refusedLine listRefusal list speedsOf onSheet energyOf W M greatestEnergy G nextQueue processOf admissible planRefusal rowRefusal row bearable bearableIn run arrive eachTotal continuations bearableQueues queueCount placeIn numberOf continuationCount numberIn readSpeed readSpeeds readSpeedTable readJob readJobs readJobTable judged readCounted speedsRefusal jobsRefusal fieldsRefusal refusal9 limitsRefusal N refusalGiven sheetRefusal stateRight startRefusal start planByte byteRight speedRefusal speed isEntry moved advanceRefusal advance inOrder inTurn everywhere anywhere firstPlace greatest listed same
+unfolding cases casesP casesOfA casesOfHopeless casesOfPlans casesOfQueues casesOfRefusals casesOfBytes casesOfSteps casesOfListings firstFailing test quickN orderly byteTest decidesTest costTest rowTest sameOption sameAnswer sameState sameBy sameSpeed sameJob sameCounted sameBool sum sumOrNone cheaper best priced choice value plan codeIn speedBytes jobBytes sheetBytes writeLines write digitsIn header bytesListed lineOf listing refusedLine listLines list speedsOf onSheet energyOf W M greatestEnergy G nextQueue processOf admissible planLines rowLines row bearable bearableIn run arrive eachTotal continuations bearableQueues queueCount placeIn numberOf continuationCount numberIn readSpeed readSpeeds readSpeedTable readJob readJobs readJobTable judged readCounted speedsLines jobsLines fieldLines limitLines N linesGiven sheetLines stateRight startLines start planByte byteRight speedLines speed isEntry moved advanceLines advance inOrder inTurn everywhere anywhere firstPlace greatest listed same
 cases-pass = refl

@@ -11,7 +11,7 @@ use lib.Dec.{leb, ltb, eqb}
 use lib.ListN.{length, getD}
 use Rattle.model.specs.Counted.{Counted, sheetOf, zeroSpeed, zeroJob}
 use Rattle.model.specs.Reading.{Answer, value, refused, Reader, onward, _>>=_, _>>_, done, test, refuse, joined, numberIn, field, readSpeed, readSpeeds, readSpeedTable, readJob, readJobs, readJobTable, ended, judged, readCounted}
-use Rattle.model.specs.Refusal.{boundRight, speedCountRight, speedRight, energyRight, horizonRight, jobCountRight, weightRight, sizeRight, deadlineRight, refusalOfSpeed, speedsRefusal, refusalOfJob, jobsRefusal, fieldsRefusal, limitsRefusal}
+use Rattle.model.specs.Refusal.{boundRight, speedCountRight, speedRight, energyRight, horizonRight, jobCountRight, weightRight, sizeRight, deadlineRight, refusalOfSpeed, speedsLines, refusalOfJob, jobsLines, fieldsRefusal, fieldLines, limitsRefusal}
 use Rattle.model.specs.Tests.{check, _then_, inOrder, inTurn}
 use Rattle.model.specs.declared.Job.{Job}
 use Rattle.model.specs.declared.Speed.{Speed}
@@ -398,7 +398,7 @@ job-entries D = record {
 pub fields-read : (bytes : List ℕ) (D horizon : ℕ) (speeds : List Speed) (jobs : List Job) (a b c d : ℕ) →
     boundRight D ≡ true → readSpeedTable bytes a ≡ value speeds b → horizonRight horizon ≡ true → readJobTable D bytes c ≡ value jobs d →
     fieldsRefusal (sheetOf D speeds horizon jobs) ≡ 0
-unfolding fieldsRefusal speedsRefusal jobsRefusal readSpeedTable readJobTable
+unfolding fieldLines speedsLines jobsLines readSpeedTable readJobTable
 fields-read bytes D horizon speeds jobs a b c d e f g h =
     let (s, m, each) = table-gave speed-entries speedCountRight 5 bytes a speeds b f in
     let (t, n, all) = table-gave (job-entries D) jobCountRight 8 bytes c jobs d h in

@@ -13,7 +13,7 @@ use Rattle.process.specs.Pairing.{Rising}
 use Rattle.process.proofs.Sums.{sum-more, sum-upto}
 use Rattle.model.specs.Counted.{Counted, speedAt, energyAt, weightAt, sizeAt, deadlineAt, speedsOf, W, M, greatestEnergy, G}
 use Rattle.model.specs.Queue.{queueCount}
-use Rattle.model.specs.Refusal.{boundRight, speedCountRight, speedRight, energyRight, horizonRight, jobCountRight, weightRight, sizeRight, deadlineRight, speedsRefusal, jobsRefusal, fieldsRefusal, refusal9, limitsRefusal, refusalGiven, sheetRefusal, valueLimit, N}
+use Rattle.model.specs.Refusal.{boundRight, speedCountRight, speedRight, energyRight, horizonRight, jobCountRight, weightRight, sizeRight, deadlineRight, speedsRefusal, speedsLines, jobsRefusal, jobsLines, fieldsRefusal, fieldLines, limitLines, linesGiven, sheetRefusal, sheetLines, valueLimit, N}
 use Rattle.model.specs.Tests.{check, _then_, within}
 use Rattle.model.proofs.Queues.{at-least-two}
 use Rattle.model.proofs.Counted.{climbs-rise, on-sheet-at, speed-upto}
@@ -63,7 +63,7 @@ speed-next before speed t =
 -- every speed and its energy were found right
 pub speeds-right : (s : Counted) (n : ℕ) → speedsRefusal s n ≡ 0 → (j : ℕ) → j < n →
     T (speedRight j (speedAt s (pred j)) (speedAt s j)) × T (energyRight (energyAt s j))
-unfolding speedsRefusal
+unfolding speedsLines
 speeds-right s n e j h =
     let speed = passed (speedRight j (speedAt s (pred j)) (speedAt s j)) 4 _ (in-order-at _ n e j h) in
     (speed .0, check-zero (energyRight (energyAt s j)) 5 (speed .1))
@@ -71,7 +71,7 @@ speeds-right s n e j h =
 -- every weight, size and deadline was found right
 pub jobs-right : (s : Counted) (n : ℕ) → jobsRefusal s n ≡ 0 → (i : ℕ) → i < n →
     T (weightRight (weightAt s i)) × T (sizeRight (sizeAt s i)) × T (deadlineRight (s .bound) (deadlineAt s i))
-unfolding jobsRefusal
+unfolding jobsLines
 jobs-right s n e i h =
     let weight = passed (weightRight (weightAt s i)) 7 _ (in-order-at _ n e i h) in
     let size = passed (sizeRight (sizeAt s i)) 7 _ (weight .1) in
@@ -79,7 +79,7 @@ jobs-right s n e i h =
 
 -- a sheet of which 4 to 8 are 0 keeps every range
 pub ranged : (s : Counted) → fieldsRefusal s ≡ 0 → Ranged s
-unfolding fieldsRefusal
+unfolding fieldLines
 ranged s e =
     let bound = passed (boundRight (s .bound)) 3 _ e in
     let count = passed (speedCountRight (s .speedCount)) 4 _ (bound .1) in
@@ -112,12 +112,12 @@ ranged s e =
 
 -- a sheet whose number is 0 has passed 4 to 8
 pub fields-right : (s : Counted) → sheetRefusal s ≡ 0 → fieldsRefusal s ≡ 0
-unfolding sheetRefusal refusalGiven
+unfolding sheetLines linesGiven
 fields-right s e = then-left (fieldsRefusal s) _ e
 
 -- a sheet whose number is 0 keeps every range and both limits
 pub accepted : (s : Counted) → sheetRefusal s ≡ 0 → Accepted s
-unfolding sheetRefusal refusalGiven limitsRefusal refusal9
+unfolding sheetLines linesGiven limitLines
 accepted s e =
     let value = passed (leb (s .horizon * G s * W s ^ s .horizon) valueLimit) 8 _ (then-right (fieldsRefusal s) _ e) in
     record {

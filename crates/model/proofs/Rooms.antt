@@ -1,18 +1,20 @@
 -- What the row call and the planner refuse (`rowRefusal` and `planRefusal` of specs/Plan.antt), by the sheet's number and the rooms that are
 -- lent, and which part of a plan a slot's row is.
 use Prim.Native.Nat.{ℕ, _+_, _-_, _≤_, _<_}
-use mathlib.Core.Path.{_≡_, sym, ap, _∙_}
+use mathlib.Core.Path.{_≡_, refl, sym, ap, _∙_}
 use mathlib.Core.Bool.{Bool, false, cond, _&&_}
 use mathlib.Core.List.{List, []}
-use native.Mathlib.Nat.{suc-mul, mul-le-mul-right}
+use native.Mathlib.Nat.{le-trans, suc-mul, mul-le-mul-right}
 use native.Mathlib.Omega.{arith}
 use borrow.Author.Tests.{le-leb, lt-leb, lt-ltb, le-ltb, eq-eqb, ne-eqb}
 use lib.Dec.{leb, ltb, eqb, leb→le}
-use lib.ListN.{length, take, drop}
+use lib.ListN.{length, take, drop, length-drop}
+use lib.Seq.{length-take-le}
 use Rattle.model.specs.Counted.{Counted}
-use Rattle.model.specs.Plan.{placeAt, valuesNeeded, planNeeded, planRefusal, rowRefusal, row}
+use Rattle.model.specs.Plan.{placeAt, valuesNeeded, planNeeded, planRefusal, planLines, rowRefusal, rowLines, row}
 use Rattle.model.specs.Refusal.{N, sheetRefusal}
 use Rattle.model.specs.Tests.{_then_}
+use Rattle.model.proofs.Refusal.{accepted, N-low}
 use Rattle.model.proofs.Tests.{and-left, and-right, and-fails-right, check-zero, check-true, check-false, then-left, then-right, then-on, then-stops}
 
 module _ (s : Counted) where
@@ -24,22 +26,22 @@ module _ (s : Counted) where
 
   -- it refuses a sheet that is refused, with the sheet's number
   pub row-refused : (room : ℕ) {number : ℕ} → number ≡ sheetRefusal s → (number ≡ 0 → ⊥) → number ≡ rowRefusal s room
-  unfolding rowRefusal
+  unfolding rowLines
   row-refused room e some = sheet-refused _ e some
 
   -- and 11 where the plan is too short
   pub row-short : (room : ℕ) → sheetRefusal s ≡ 0 → room < planNeeded s → 11 ≡ rowRefusal s room
-  unfolding rowRefusal
+  unfolding rowLines
   row-short room e h = sym (then-on (sheetRefusal s) _ e ∙ check-false _ 11 (lt-leb (planNeeded s) room h))
 
   -- and 0 otherwise
   pub row-fits : (room : ℕ) → sheetRefusal s ≡ 0 → planNeeded s ≤ room → 0 ≡ rowRefusal s room
-  unfolding rowRefusal
+  unfolding rowLines
   row-fits room e h = sym (then-on (sheetRefusal s) _ e ∙ check-true _ 11 (le-leb (planNeeded s) room h))
 
   -- what a row call that is not refused has: an accepted sheet, and room for the plan
   pub row-accepted : (room : ℕ) → rowRefusal s room ≡ 0 → (sheetRefusal s ≡ 0) × (planNeeded s ≤ room)
-  unfolding rowRefusal
+  unfolding rowLines
   row-accepted room e = (
     then-left (sheetRefusal s) _ e,
     leb→le (planNeeded s) room (check-zero (leb (planNeeded s) room) 10 (then-right (sheetRefusal s) _ e)),
@@ -54,13 +56,13 @@ module _ (s : Counted) where
   -- it refuses a sheet that is refused, with the sheet's number
   pub plan-refused : (valuesRoom planRoom : ℕ) {number : ℕ} → number ≡ sheetRefusal s → (number ≡ 0 → ⊥) →
       number ≡ planRefusal s valuesRoom planRoom
-  unfolding planRefusal
+  unfolding planLines
   plan-refused valuesRoom planRoom e some = sheet-refused _ e some
 
   -- and 11 where the values are too short
   pub plan-short-values : (valuesRoom planRoom : ℕ) → sheetRefusal s ≡ 0 → valuesRoom < valuesNeeded s →
       11 ≡ planRefusal s valuesRoom planRoom
-  unfolding planRefusal
+  unfolding planLines
   plan-short-values valuesRoom planRoom e h =
       sym
       (then-on (sheetRefusal s) _ e ∙
@@ -68,7 +70,7 @@ module _ (s : Counted) where
 
   -- or the plan is
   pub plan-short-plan : (valuesRoom planRoom : ℕ) → sheetRefusal s ≡ 0 → planRoom < planNeeded s → 11 ≡ planRefusal s valuesRoom planRoom
-  unfolding planRefusal
+  unfolding planLines
   plan-short-plan valuesRoom planRoom e h =
       sym
       (then-on (sheetRefusal s) _ e ∙
@@ -77,7 +79,7 @@ module _ (s : Counted) where
   -- and 0 otherwise
   pub plan-fits : (valuesRoom planRoom : ℕ) → sheetRefusal s ≡ 0 → valuesNeeded s ≤ valuesRoom → planNeeded s ≤ planRoom →
       0 ≡ planRefusal s valuesRoom planRoom
-  unfolding planRefusal
+  unfolding planLines
   plan-fits valuesRoom planRoom e h k =
       let values = ap (λ (b : Bool). b && leb (planNeeded s) planRoom) (le-leb (valuesNeeded s) valuesRoom h) in
       sym (then-on (sheetRefusal s) _ e ∙ check-true _ 11 (values ∙ le-leb (planNeeded s) planRoom k))
@@ -85,7 +87,7 @@ module _ (s : Counted) where
   -- what a plan that is not refused has: an accepted sheet, and room for the values and the plan
   pub plan-accepted : (valuesRoom planRoom : ℕ) → planRefusal s valuesRoom planRoom ≡ 0 →
       (sheetRefusal s ≡ 0) × (valuesNeeded s ≤ valuesRoom) × (planNeeded s ≤ planRoom)
-  unfolding planRefusal
+  unfolding planLines
   plan-accepted valuesRoom planRoom e =
       let values = leb (valuesNeeded s) valuesRoom in
       let plan = leb (planNeeded s) planRoom in
@@ -123,3 +125,14 @@ module _ (s : Counted) where
       let long : first + count - first ≡ N s = omega arith in
       ap (λ (n : ℕ). take n (drop first plan)) long ∙ ap (λ (p : ℕ). take (N s) (drop p plan)) place ∙
       sym (ap (λ (b : Bool). rowBy b plan t) test)
+
+  -- a row that is there is not empty: "N is at least 2, so an empty part always means no row"
+  pub row-there : (plan : List ℕ) (t : ℕ) → rowRefusal s (length plan) ≡ 0 → t < s .horizon → row s plan t ≡ [] → ⊥
+  row-there plan t e h empty =
+      let (is-accepted, room) = row-accepted (length plan) e in
+      let first = placeAt s t 0 in
+      let fits = le-trans (mul-le-mul-right (N s) h) room in
+      let enough : first + N s - first ≤ length (drop first plan) = omega (arith, length-drop first plan, suc-mul t (N s)) in
+      let long = length-take-le (first + N s - first) (drop first plan) enough in
+      let none = ap length (row-part plan t {first = first} {count = N s} e h refl refl ∙ empty) in
+      omega (arith, N-low s (accepted s is-accepted .ranged))

@@ -9,10 +9,10 @@ use borrow.Author.Tests.{le-leb, lt-leb, leb-true}
 use lib.Dec.{leb}
 use lib.ListN.{length, take, drop, replicate, length-append}
 use lib.Seq.{take-all, take-take, take-at, length-take-le}
-use Rattle.model.specs.Bytes.{AreBytes, code, speedBytes, jobBytes, sheetBytes, writeRefusal, write}
+use Rattle.model.specs.Bytes.{AreBytes, code, speedBytes, jobBytes, sheetBytes, writeRefusal, writeLines, write}
 use Rattle.model.specs.Counted.{Counted, sheetOf, counted, inMemory, zeroSpeed, zeroJob}
 use Rattle.model.specs.Reading.{Answer, value, refused, readSpeedTable, readJobTable, judged, readCounted, readAnswer, read}
-use Rattle.model.specs.Refusal.{boundRight, speedCountRight, horizonRight, jobCountRight, speedsRefusal, jobsRefusal, fieldsRefusal, limitsRefusal, refusalGiven, sheetRefusal, N}
+use Rattle.model.specs.Refusal.{boundRight, speedCountRight, horizonRight, jobCountRight, speedsRefusal, speedsLines, jobsLines, fieldsRefusal, fieldLines, limitsRefusal, linesGiven, sheetRefusal, sheetLines, N}
 use Rattle.model.specs.Tests.{inTurn, padded}
 use Rattle.model.specs.declared.Sheet.{Sheet}
 use Rattle.model.proofs.Codes.{field-code, field-bytes}
@@ -120,7 +120,7 @@ stand-code before (x ∷ l) a = (
 -- bytes that end where the fields of an accepted sheet stand are read as that sheet
 stand-read : (bytes : List ℕ) (s : Counted) → sheetRefusal s ≡ 0 → WellCounted s → Stand bytes 0 (sheetFields s) (length bytes) →
     readCounted N bytes 0 ≡ value s (length bytes)
-unfolding sheetRefusal refusalGiven fieldsRefusal speedsRefusal jobsRefusal readCounted readSpeedTable readJobTable judged sheetFields
+unfolding sheetLines linesGiven fieldLines speedsLines jobsLines readCounted readSpeedTable readJobTable judged sheetFields
 stand-read bytes s e w stands =
     let (bound, e1) = holds-then (boundRight (s .bound)) 3 _ (then-left (fieldsRefusal s) _ e) in
     let (speedCount, e2) = holds-then (speedCountRight (s .speedCount)) 4 _ e1 in
@@ -146,7 +146,7 @@ stand-read bytes s e w stands =
 
 -- an accepted sheet's bytes are read as that sheet, to their end
 pub read-written : (s : Counted) → sheetRefusal s ≡ 0 → WellCounted s → readCounted N (sheetBytes s) 0 ≡ value s (length (sheetBytes s))
-unfolding sheetRefusal refusalGiven
+unfolding sheetLines linesGiven
 read-written s e w =
     let small = sheet-small s (ranged s (then-left (fieldsRefusal s) _ e)) in
     stand-read (sheetBytes s) s e w (rw sheet-bytes at (stand-code [] (sheetFields s) small))
@@ -170,7 +170,7 @@ stand-written bytes are s next h stands =
 -- bytes that are read as a sheet are that sheet's bytes, and it is an accepted one
 pub written-read : (bytes : List ℕ) (are : AreBytes bytes) (s : Counted) (next : ℕ) → readCounted N bytes 0 ≡ value s next →
     BytesOf bytes s
-unfolding sheetRefusal refusalGiven readCounted readSpeedTable readJobTable judged sheetFields
+unfolding sheetLines linesGiven readCounted readSpeedTable readJobTable judged sheetFields
 written-read bytes are s next e =
     let (D, a, f, t, e1) = tested-gave boundRight 4 bytes 0 _ e in
     let (speeds, b, m, e2) = onward-gave (readSpeedTable bytes a) _ e1 in
@@ -221,11 +221,11 @@ write-number s buffer = written-number (writeRefusal s (length buffer)) (sheetBy
 -- the number of an accepted sheet's write, by the room that it has
 
 pub write-fits : (s : Counted) (room : ℕ) → sheetRefusal s ≡ 0 → length (sheetBytes s) ≤ room → writeRefusal s room ≡ 0
-unfolding writeRefusal
+unfolding writeLines
 write-fits s room e h = then-on (sheetRefusal s) _ e ∙ check-true _ 11 (le-leb (length (sheetBytes s)) room h)
 
 pub write-short : (s : Counted) (room : ℕ) → sheetRefusal s ≡ 0 → room < length (sheetBytes s) → writeRefusal s room ≡ 11
-unfolding writeRefusal
+unfolding writeLines
 write-short s room e h = then-on (sheetRefusal s) _ e ∙ check-false _ 11 (lt-leb (length (sheetBytes s)) room h)
 
 -- a write that was not refused: the sheet is accepted, and its bytes stand first in the buffer
@@ -235,7 +235,7 @@ pub record WrittenOut (s : Counted) (buffer : List ℕ) : Type 0 where
   pub bytes-stand : take (length (sheetBytes s)) (write s buffer .buffer) ≡ sheetBytes s
 
 pub written-out : (s : Counted) (buffer : List ℕ) → write s buffer .number ≡ 0 → WrittenOut s buffer
-unfolding write writeRefusal
+unfolding write writeLines
 written-out s buffer e =
     let none : writeRefusal s (length buffer) ≡ 0 = sym (write-number s buffer) ∙ e in
     record {

@@ -11,9 +11,9 @@ use Rattle.model.specs.Counted.{Counted, sizeAt, deadlineAt, onSheet, en
 use Rattle.model.specs.Plan.{placeOfQueue, rowRefusal}
 use Rattle.model.specs.Queue.{total, placesOf, oneSlot}
 use Rattle.model.specs.Refusal.{sheetRefusal}
-use Rattle.model.specs.Stepper.{State, queueOf, queueRight, stateRight, zeroState, startRefusal, start, planByte, byteRight, speedRefusal, speed, isEntryAt, isEntry, moved, nextRefusal, advanceRefusal, advance}
+use Rattle.model.specs.Stepper.{State, queueOf, queueRight, stateRight, zeroState, startRefusal, startLines, start, planByte, byteRight, speedRefusal, speedLines, speed, isEntryAt, isEntry, moved, nextRefusal, advanceRefusal, advanceLines, advance}
 use Rattle.model.specs.Tests.{check, _then_}
-use Rattle.model.proofs.Tests.{anywhere-one, and-both, and-left, and-right, and-fails-right, check-zero, check-true, check-false, then-left, then-right, then-on, then-passes, then-fails, then-stops, then-then}
+use Rattle.model.proofs.Tests.{anywhere-one, and-both, and-left, and-right, and-fails-right, check-zero, check-true, check-false, then-left, then-right, then-on, then-passes, then-fails, then-stops}
 
 module _ (s : Counted) where
   -- start
@@ -27,26 +27,26 @@ module _ (s : Counted) where
 
   -- it refuses a sheet that is refused, with the sheet's number
   pub start-refusal-sheet : (x : State) {number : ℕ} → number ≡ sheetRefusal s → (number ≡ 0 → ⊥) → startRefusal s x ≡ number
-  unfolding startRefusal
+  unfolding startLines
   start-refusal-sheet x {number = number} e some = rw (← e) (then-stops number _ some)
 
   -- and 13 where the queue is not right
   pub start-refusal-13 : (x : State) → sheetRefusal s ≡ 0 → queueRight s x ≡ false → startRefusal s x ≡ 13
-  unfolding startRefusal
+  unfolding startLines
   start-refusal-13 x e wrong = then-on (sheetRefusal s) _ e ∙ check-false (queueRight s x) 13 wrong
 
   -- and 0 otherwise
   pub start-refusal-0 : (x : State) → sheetRefusal s ≡ 0 → queueRight s x ≡ true → startRefusal s x ≡ 0
-  unfolding startRefusal
+  unfolding startLines
   start-refusal-0 x e right = then-on (sheetRefusal s) _ e ∙ check-true (queueRight s x) 13 right
 
   -- 4 to 10 and 11 are the row call's tests
-  pub speed-in-parts : (plan : List ℕ) (x : State) →
+  speed-in-parts : (plan : List ℕ) (x : State) →
       speedRefusal s plan x ≡
       rowRefusal s (length plan) then
       (check (stateRight s x) 13 then (check (not (eqb (x .slot) (s .horizon))) 14 then check (byteRight s x (planByte s plan x)) 16))
-  unfolding speedRefusal rowRefusal
-  speed-in-parts plan x = sym (then-then (sheetRefusal s) _ _)
+  unfolding speedLines
+  speed-in-parts plan x = refl
 
   -- a speed is told by its number
   pub speed-by : (plan : List ℕ) (x : State) {number : ℕ} → speedRefusal s plan x ≡ number →
@@ -190,19 +190,19 @@ module _ (s : Counted) where
   -- it refuses what the speed call refuses
   pub advance-refusal-speed : (plan : List ℕ) (x : State) (size deadline : ℕ) {number : ℕ} → number ≡ speedRefusal s plan x → (number ≡ 0 → ⊥) →
       advanceRefusal s plan x size deadline ≡ number
-  unfolding advanceRefusal
+  unfolding advanceLines
   advance-refusal-speed plan x size deadline {number = number} e some = rw (← e) (then-stops number _ some)
 
   -- then 15, where the arrival is no entry
   pub advance-refusal-15 : (plan : List ℕ) (x : State) (size deadline : ℕ) → speedRefusal s plan x ≡ 0 → isEntry s size deadline ≡ false →
       advanceRefusal s plan x size deadline ≡ 15
-  unfolding advanceRefusal
+  unfolding advanceLines
   advance-refusal-15 plan x size deadline e wrong = then-on (speedRefusal s plan x) _ e ∙ then-fails (isEntry s size deadline) 14 _ wrong
 
   -- and 17 and 18 are left otherwise
   pub advance-refusal-next : (plan : List ℕ) (x : State) (size deadline : ℕ) → speedRefusal s plan x ≡ 0 → isEntry s size deadline ≡ true →
       advanceRefusal s plan x size deadline ≡ nextRefusal s (moved s x (planByte s plan x) size deadline)
-  unfolding advanceRefusal
+  unfolding advanceLines
   advance-refusal-next plan x size deadline e right =
       then-on (speedRefusal s plan x) _ e ∙ then-passes (isEntry s size deadline) 15 _ right
 

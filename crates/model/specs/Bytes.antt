@@ -6,8 +6,8 @@ use mathlib.Core.List.{List, [], _∷_, _++_}
 use lib.Dec.{leb, ltb, eqb}
 use lib.ListN.{length, getD, drop}
 use Rattle.model.specs.Counted.{Counted, zeroSpeed, zeroJob}
-use Rattle.model.specs.Refusal.{sheetRefusal}
-use Rattle.model.specs.Tests.{check, _then_, inTurn}
+use Rattle.model.specs.Refusal.{sheetLines}
+use Rattle.model.specs.Tests.{Lines, line, _⨾_, firstOf, inTurn}
 use Rattle.model.specs.declared.Job.{Job}
 use Rattle.model.specs.declared.Speed.{Speed}
 
@@ -51,8 +51,11 @@ sheetBytes s =
     jobBytes s (s .jobCount)))))
 
 -- "Planner, writer and row: 4 to 10, 11": `room` is the length of the lent buffer
-unfoldable pub writeRefusal : Counted → ℕ → ℕ
-writeRefusal s room = sheetRefusal s then check (leb (length (sheetBytes s)) room) 11
+unfoldable pub writeLines : Counted → ℕ → Lines
+writeLines s room = sheetLines s ⨾ line 11 (leb (length (sheetBytes s)) room)
+
+abbrev pub writeRefusal : Counted → ℕ → ℕ
+writeRefusal s room = firstOf (writeLines s room)
 
 -- what a call that writes bytes answers, and what it leaves in the lent buffer
 pub record Written : Type 0 where

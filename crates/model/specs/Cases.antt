@@ -382,6 +382,8 @@ casesOfBytes =
     lists (write A (replicate 17 7) .buffer) (bytesA ++ (7 ∷ [])) ∷
     numbers (write A (replicate 17 7) .number) 0 ∷
     numbers (write A (replicate 17 7) .written) 16 ∷
+    -- the sheet's own number comes before 11
+    numbers (write crowded [] .number) 5 ∷
     []
 
 -- the stepper
@@ -395,7 +397,8 @@ casesOfSteps =
     steps (start A (state (0 ∷ 4294967295 ∷ []) 0 0)) 13 (state [] 0 0) ∷
     steps (start A (state (0 ∷ 0 ∷ 1 ∷ []) 0 0)) 13 (state [] 0 0) ∷
     steps (start crowded (state (0 ∷ 5 ∷ []) 0 0)) 5 (state [] 0 0) ∷
-    -- 11 asks for the whole plan whatever the slot, before 13 and 14
+    -- 11 asks for the whole plan whatever the slot, after the sheet's own number and before 13 and 14
+    tells (speed crowded [] (state (0 ∷ 5 ∷ []) 9 0)) 5 0 ∷
     tells (speed A A0 (state (0 ∷ 5 ∷ []) 9 0)) 11 0 ∷
     tells (speed A (planA ++ (7 ∷ [])) (state (0 ∷ 2 ∷ []) 0 0)) 0 1 ∷
     -- a slot above T is 13, and slot T is 14

@@ -10,8 +10,8 @@ use lib.ListN.{length, getD}
 use Rattle.model.specs.Bytes.{Written, written}
 use Rattle.model.specs.Counted.{Counted, W}
 use Rattle.model.specs.Plan.{placeAt, planNeeded}
-use Rattle.model.specs.Refusal.{sheetRefusal, N}
-use Rattle.model.specs.Tests.{check, _then_, inTurn}
+use Rattle.model.specs.Refusal.{sheetLines, N}
+use Rattle.model.specs.Tests.{Lines, line, _⨾_, firstOf, inTurn}
 
 -- a text's characters, each by its code
 abbrev pub text : String → List ℕ
@@ -66,9 +66,11 @@ unfoldable pub refusedLine : ℕ → List ℕ
 refusedLine number = text "refused " ++ (decimal number ++ text "\n")
 
 -- 4 to 10, then "11: a lent buffer shorter than needed": the plan, T times N bytes, or the buffer for the listing, of length `room`
-unfoldable pub listRefusal : Counted → (least : ℕ) → (plan : List ℕ) → (room : ℕ) → ℕ
-listRefusal s least plan room =
-    sheetRefusal s then check (leb (planNeeded s) (length plan) && leb (length (listing s least plan)) room) 11
+unfoldable pub listLines : Counted → (least : ℕ) → (plan : List ℕ) → (room : ℕ) → Lines
+listLines s least plan room = sheetLines s ⨾ line 11 (leb (planNeeded s) (length plan) && leb (length (listing s least plan)) room)
+
+abbrev pub listRefusal : Counted → (least : ℕ) → (plan : List ℕ) → (room : ℕ) → ℕ
+listRefusal s least plan room = firstOf (listLines s least plan room)
 
 -- what the call answers, and what it leaves in the lent buffer
 unfoldable pub list : Counted → (least : ℕ) → (plan buffer : List ℕ) → Written

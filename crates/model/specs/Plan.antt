@@ -10,8 +10,8 @@ use lib.ListN.{length, getD, take, drop}
 use Rattle.process.specs.Ways.{Process, IsValue, IsCost, IsFirst}
 use Rattle.model.specs.Counted.{Counted, sizeAt, deadlineAt, weightAt, speedsOf, onSheet, energyOf, M}
 use Rattle.model.specs.Queue.{Queue, total, emptyQueue, bearable, oneSlot, bearableQueues, numberOf}
-use Rattle.model.specs.Refusal.{sheetRefusal, N}
-use Rattle.model.specs.Tests.{check, _then_, everywhere}
+use Rattle.model.specs.Refusal.{sheetLines, N}
+use Rattle.model.specs.Tests.{Lines, line, _⨾_, firstOf, everywhere}
 
 -- the queue after one slot at a speed and then the arrival of the entry at place i
 unfoldable pub nextQueue : Counted → Queue → ℕ → ℕ → Queue
@@ -89,9 +89,11 @@ abbrev pub planNeeded : Counted → ℕ
 planNeeded s = s .horizon * N s
 
 -- "Planner, writer and row: 4 to 10, 11"
-unfoldable pub planRefusal : Counted → ℕ → ℕ → ℕ
-planRefusal s valuesRoom planRoom =
-    sheetRefusal s then check (leb (valuesNeeded s) valuesRoom && leb (planNeeded s) planRoom) 11
+unfoldable pub planLines : Counted → (valuesRoom planRoom : ℕ) → Lines
+planLines s valuesRoom planRoom = sheetLines s ⨾ line 11 (leb (valuesNeeded s) valuesRoom && leb (planNeeded s) planRoom)
+
+abbrev pub planRefusal : Counted → ℕ → ℕ → ℕ
+planRefusal s valuesRoom planRoom = firstOf (planLines s valuesRoom planRoom)
 
 -- "12: planned, but the empty queue at slot 0 has none"
 abbrev pub number12 : Option ℕ → ℕ
@@ -149,8 +151,11 @@ Leaves read s values₀ plan₀ values plan a =
 
 -- "A row call answers the part of the caller's plan that belongs to slot t, and an empty part on any refusal or when t is not below T"
 
-unfoldable pub rowRefusal : Counted → ℕ → ℕ
-rowRefusal s room = sheetRefusal s then check (leb (planNeeded s) room) 11
+unfoldable pub rowLines : Counted → ℕ → Lines
+rowLines s room = sheetLines s ⨾ line 11 (leb (planNeeded s) room)
+
+abbrev pub rowRefusal : Counted → ℕ → ℕ
+rowRefusal s room = firstOf (rowLines s room)
 
 unfoldable pub row : Counted → List ℕ → ℕ → List ℕ
 row s plan t = cond (eqb (rowRefusal s (length plan)) 0 && ltb t (s .horizon)) (take (N s) (drop (placeAt s t 0) plan)) []

@@ -1,11 +1,11 @@
 -- Document 01, "Numbers returned", for a sheet. "A sheet in memory is tested 4 to 10 in that field order by every call": the reader's
 -- order, in which a field's "own range is tested before the next field".
-use Prim.Native.Nat.{ℕ, zero, suc, pred, _*_, _^_, _-_}
+use Prim.Native.Nat.{ℕ, zero, suc, pred, _+_, _*_, _^_, _-_}
 use mathlib.Core.Bool.{Bool, _&&_}
 use lib.Dec.{leb, ltb, eqb}
 use Rattle.model.specs.Counted.{Counted, speedAt, energyAt, weightAt, sizeAt, deadlineAt, W, M, G}
 use Rattle.model.specs.Queue.{queueCount}
-use Rattle.model.specs.Tests.{check, _then_, inOrder, within}
+use Rattle.model.specs.Tests.{Lines, nothing, line, _⨾_, table, firstOf, within}
 
 -- the range of each field
 
@@ -44,66 +44,126 @@ sizeRight size = leb size 255
 abbrev pub deadlineRight : ℕ → ℕ → Bool
 deadlineRight D deadline = within 1 D deadline
 
--- 5 and 6 of the speed at place j, after the speed `before`: the speed, then its energy
-abbrev pub refusalOfSpeed : ℕ → ℕ → ℕ → ℕ → ℕ
-refusalOfSpeed j before speed energy = check (speedRight j before speed) 5 then check (energyRight energy) 6
+-- The lines of a sheet, for the reader and for a sheet in memory alike. The numbers of a sheet are counted from 0 in 01's field order: "D;
+-- count of speeds; for each, speed then energy; T; count of jobs; for each, weight, size, deadline". So D is number 0, the count of speeds
+-- number 1, and then:
 
--- of the speed at a place of the sheet
-abbrev pub speedRefusalAt : Counted → ℕ → ℕ
-speedRefusalAt s j = refusalOfSpeed j (speedAt s (pred j)) (speedAt s j) (energyAt s j)
+-- the speed at place j; its energy is the number after it. With j the count of speeds: T, and after it the count of jobs
+abbrev pub speedField : ℕ → ℕ
+speedField j = 2 + 2 * j
 
--- over the first n speeds: each speed, its energy, then the next speed
-unfoldable pub speedsRefusal : Counted → ℕ → ℕ
-speedsRefusal s n = inOrder (speedRefusalAt s) n
+-- the weight of the job at place i of a sheet with so many speeds; its size and its deadline are the two numbers after it
+abbrev pub jobField : ℕ → ℕ → ℕ
+jobField speedCount i = 4 + 2 * speedCount + 3 * i
 
--- 8 of one job of a sheet with deadline bound D
-abbrev pub refusalOfJob : ℕ → ℕ → ℕ → ℕ → ℕ
-refusalOfJob D weight size deadline =
-    check (weightRight weight) 8 then check (sizeRight size) 8 then check (deadlineRight D deadline) 8
+-- what is tested where number k of a sheet is read, before its range: of a sheet in memory nothing
+abbrev pub nothingRead : ℕ → Lines
+nothingRead k = nothing
 
--- of the job at a place of the sheet
-abbrev pub jobRefusalAt : Counted → ℕ → ℕ
-jobRefusalAt s i = refusalOfJob (s .bound) (weightAt s i) (sizeAt s i) (deadlineAt s i)
+-- "for each, speed then energy": the speed at place j, after the speed `before`. "5: .. first not 0, not strictly rising, or one above 8",
+-- "6: an energy above 65,535"
+abbrev pub linesOfSpeed : (reading : ℕ → Lines) → (j before speed energy : ℕ) → Lines
+linesOfSpeed reading j before speed energy =
+    reading (speedField j) ⨾
+    line 5 (speedRight j before speed) ⨾
+    reading (suc (speedField j)) ⨾
+    line 6 (energyRight energy)
 
--- over the first n jobs
-unfoldable pub jobsRefusal : Counted → ℕ → ℕ
-jobsRefusal s n = inOrder (jobRefusalAt s) n
+-- the first n speeds of a sheet
+unfoldable pub speedsLines : (reading : ℕ → Lines) → Counted → ℕ → Lines
+speedsLines reading s n = table (λ j. linesOfSpeed reading j (speedAt s (pred j)) (speedAt s j) (energyAt s j)) n
 
--- 4 to 8: the range of each field, in field order
-unfoldable pub fieldsRefusal : Counted → ℕ
-fieldsRefusal s =
-    check (boundRight (s .bound)) 4 then
-    check (speedCountRight (s .speedCount)) 5 then
-    speedsRefusal s (s .speedCount) then
-    check (horizonRight (s .horizon)) 7 then
-    check (jobCountRight (s .jobCount)) 8 then
-    jobsRefusal s (s .jobCount)
+-- "for each, weight, size, deadline": a job whose weight is number k, of a sheet with deadline bound D. "8: a .. weight, size or deadline
+-- out of range"
+abbrev pub linesOfJob : (reading : ℕ → Lines) → (k D weight size deadline : ℕ) → Lines
+linesOfJob reading k D weight size deadline =
+    reading k ⨾
+    line 8 (weightRight weight) ⨾
+    reading (suc k) ⨾
+    line 8 (sizeRight size) ⨾
+    reading (suc (suc k)) ⨾
+    line 8 (deadlineRight D deadline)
+
+-- the first n jobs of a sheet
+unfoldable pub jobsLines : (reading : ℕ → Lines) → Counted → ℕ → Lines
+jobsLines reading s n =
+    table (λ i. linesOfJob reading (jobField (s .speedCount) i) (s .bound) (weightAt s i) (sizeAt s i) (deadlineAt s i)) n
+
+-- 4 to 8, in field order: "then its own range is tested before the next field". "4: D out of range", "5: count of speeds out of range ..",
+-- "7: T out of range", "8: a job count .. out of range"
+unfoldable pub fieldLines : (reading : ℕ → Lines) → Counted → Lines
+fieldLines reading s =
+    reading 0 ⨾
+    line 4 (boundRight (s .bound)) ⨾
+    reading 1 ⨾
+    line 5 (speedCountRight (s .speedCount)) ⨾
+    speedsLines reading s (s .speedCount) ⨾
+    reading (speedField (s .speedCount)) ⨾
+    line 7 (horizonRight (s .horizon)) ⨾
+    reading (suc (speedField (s .speedCount))) ⨾
+    line 8 (jobCountRight (s .jobCount)) ⨾
+    jobsLines reading s (s .jobCount)
 
 -- "9: T times G times W to the power T exceeds 2^63-1". 01's factor is T; it and the limit are parameters, since later requests change them
-unfoldable pub refusal9 : ℕ → ℕ → Counted → ℕ
-refusal9 factor limit s = check (leb (factor * G s * W s ^ s .horizon) limit) 9
+abbrev pub valueFits : ℕ → ℕ → Counted → Bool
+valueFits factor limit s = leb (factor * G s * W s ^ s .horizon) limit
 
 -- "2^63-1", of number 9: no value passes it
 abbrev pub valueLimit : ℕ
 valueLimit = 2 ^ 63 - 1
 
 -- "10: N above 65,535"
-abbrev pub refusal10 : ℕ → ℕ
-refusal10 N = check (leb N 65535) 10
+abbrev pub queuesFit : ℕ → Bool
+queuesFit queues = leb queues 65535
 
 -- N of a sheet
 unfoldable pub N : Counted → ℕ
 N s = queueCount (M s) (s .bound)
 
 -- 9 and 10, of the sheet as a whole. Its N is handed in as `queues`, so that the cases can be computed with 01's recurrence, which is
--- proved equal; `sheetRefusal` hands in N itself
-unfoldable pub limitsRefusal : ℕ → Counted → ℕ
-limitsRefusal queues s = refusal9 (s .horizon) valueLimit s then refusal10 queues
+-- proved equal; `sheetLines` hands in N itself
+unfoldable pub limitLines : ℕ → Counted → Lines
+limitLines queues s = line 9 (valueFits (s .horizon) valueLimit s) ⨾ line 10 (queuesFit queues)
 
 -- 4 to 10 in field order, where the sheet's N is `queues`
-unfoldable pub refusalGiven : ℕ → Counted → ℕ
-refusalGiven queues s = fieldsRefusal s then limitsRefusal queues s
+unfoldable pub linesGiven : ℕ → Counted → Lines
+linesGiven queues s = fieldLines nothingRead s ⨾ limitLines queues s
+
+-- "A sheet in memory is tested 4 to 10 in that field order by every call"
+unfoldable pub sheetLines : Counted → Lines
+sheetLines s = linesGiven (N s) s
+
+-- the numbers
+
+-- of one speed in memory: 0, or the first of 5 and 6 whose test fails
+abbrev pub refusalOfSpeed : ℕ → ℕ → ℕ → ℕ → ℕ
+refusalOfSpeed j before speed energy = firstOf (linesOfSpeed nothingRead j before speed energy)
+
+abbrev pub speedRefusalAt : Counted → ℕ → ℕ
+speedRefusalAt s j = refusalOfSpeed j (speedAt s (pred j)) (speedAt s j) (energyAt s j)
+
+abbrev pub speedsRefusal : Counted → ℕ → ℕ
+speedsRefusal s n = firstOf (speedsLines nothingRead s n)
+
+-- of one job in memory
+abbrev pub refusalOfJob : ℕ → ℕ → ℕ → ℕ → ℕ
+refusalOfJob D weight size deadline = firstOf (linesOfJob nothingRead 0 D weight size deadline)
+
+abbrev pub jobRefusalAt : Counted → ℕ → ℕ
+jobRefusalAt s i = refusalOfJob (s .bound) (weightAt s i) (sizeAt s i) (deadlineAt s i)
+
+abbrev pub jobsRefusal : Counted → ℕ → ℕ
+jobsRefusal s n = firstOf (jobsLines nothingRead s n)
+
+abbrev pub fieldsRefusal : Counted → ℕ
+fieldsRefusal s = firstOf (fieldLines nothingRead s)
+
+abbrev pub limitsRefusal : ℕ → Counted → ℕ
+limitsRefusal queues s = firstOf (limitLines queues s)
+
+abbrev pub refusalGiven : ℕ → Counted → ℕ
+refusalGiven queues s = firstOf (linesGiven queues s)
 
 -- the number of a sheet: 0, or the first of 4 to 10 whose test fails
-unfoldable pub sheetRefusal : Counted → ℕ
-sheetRefusal s = refusalGiven (N s) s
+abbrev pub sheetRefusal : Counted → ℕ
+sheetRefusal s = firstOf (sheetLines s)

@@ -6,10 +6,10 @@ use mathlib.Core.List.{List}
 use lib.Dec.{leb, eqb}
 use lib.ListN.{length, getD, replicate}
 use Rattle.model.specs.Counted.{Counted, sizeAt, deadlineAt, onSheet, energyOf, greatestEnergy, M}
-use Rattle.model.specs.Plan.{placeOfQueue, planNeeded}
+use Rattle.model.specs.Plan.{placeOfQueue, rowLines}
 use Rattle.model.specs.Queue.{Queue, total, positions, queueIn, placesOf, bearable, bearableIn, oneSlot}
-use Rattle.model.specs.Refusal.{sheetRefusal}
-use Rattle.model.specs.Tests.{check, _then_, anywhere}
+use Rattle.model.specs.Refusal.{sheetLines}
+use Rattle.model.specs.Tests.{Lines, line, _⨾_, firstOf, anywhere}
 
 -- "A state has a queue, a slot number and the energy spent": the queue as it stands in its six places
 pub record State : Type 0 where
@@ -40,8 +40,11 @@ pub record Stepped : Type 0 where
   pub number : ℕ
   pub state : State
 
-unfoldable pub startRefusal : Counted → State → ℕ
-startRefusal s x = sheetRefusal s then check (queueRight s x) 13
+unfoldable pub startLines : Counted → State → Lines
+startLines s x = sheetLines s ⨾ line 13 (queueRight s x)
+
+abbrev pub startRefusal : Counted → State → ℕ
+startRefusal s x = firstOf (startLines s x)
 
 -- "A refused start gives an all-zero state"
 unfoldable pub start : Counted → State → Stepped
@@ -58,13 +61,15 @@ unfoldable pub byteRight : Counted → State → ℕ → Bool
 byteRight s x byte = onSheet s byte && leb (total (queueOf s x) 1) byte
 
 -- "Speed: 4 to 10, 11, 13, 14, 16"
-unfoldable pub speedRefusal : Counted → List ℕ → State → ℕ
-speedRefusal s plan x =
-    sheetRefusal s then
-    check (leb (planNeeded s) (length plan)) 11 then
-    check (stateRight s x) 13 then
-    check (not (eqb (x .slot) (s .horizon))) 14 then
-    check (byteRight s x (planByte s plan x)) 16
+unfoldable pub speedLines : Counted → List ℕ → State → Lines
+speedLines s plan x =
+    rowLines s (length plan) ⨾
+    line 13 (stateRight s x) ⨾
+    line 14 (not (eqb (x .slot) (s .horizon))) ⨾
+    line 16 (byteRight s x (planByte s plan x))
+
+abbrev pub speedRefusal : Counted → List ℕ → State → ℕ
+speedRefusal s plan x = firstOf (speedLines s plan x)
 
 pub record Told : Type 0 where
   pub number : ℕ
@@ -98,16 +103,19 @@ abbrev pub energyLimit : ℕ
 energyLimit = 4294967295
 
 -- of the next state: "17: the next queue would not be bearable", "18: the new energy total would pass 4,294,967,295"
+abbrev pub nextLines : Counted → State → Lines
+nextLines s next = line 17 (bearable (M s) (queueOf s next)) ⨾ line 18 (leb (next .energy) energyLimit)
+
 abbrev pub nextRefusal : Counted → State → ℕ
-nextRefusal s next = check (bearable (M s) (queueOf s next)) 17 then check (leb (next .energy) energyLimit) 18
+nextRefusal s next = firstOf (nextLines s next)
 
 -- "Advance: the same, then 15, 17, 18"
-unfoldable pub advanceRefusal : Counted → List ℕ → State → ℕ → ℕ → ℕ
-advanceRefusal s plan x size deadline =
-    let next = moved s x (planByte s plan x) size deadline in
-    speedRefusal s plan x then
-    check (isEntry s size deadline) 15 then
-    nextRefusal s next
+unfoldable pub advanceLines : Counted → List ℕ → State → ℕ → ℕ → Lines
+advanceLines s plan x size deadline =
+    speedLines s plan x ⨾ line 15 (isEntry s size deadline) ⨾ nextLines s (moved s x (planByte s plan x) size deadline)
+
+abbrev pub advanceRefusal : Counted → List ℕ → State → ℕ → ℕ → ℕ
+advanceRefusal s plan x size deadline = firstOf (advanceLines s plan x size deadline)
 
 -- "a refused advance hands back the state it got"
 unfoldable pub advance : Counted → List ℕ → State → ℕ → ℕ → Stepped

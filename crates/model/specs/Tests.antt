@@ -21,6 +21,25 @@ unfoldable pub inOrder : (ℕ → ℕ) → ℕ → ℕ
 inOrder number zero = 0
 inOrder number (suc n) = inOrder number n then number n
 
+-- Tests in order, each with its number, as 01's lists give them. A number may stand in several lines
+infixr 20 _⨾_
+pub data Lines : Type 0 where
+  -- no test
+  nothing : Lines
+  -- one test, by its number and whether it passes
+  line : ℕ → Bool → Lines
+  -- tests and then others
+  _⨾_ : Lines → Lines → Lines
+  -- for each place from 0 to n-1 its tests
+  table : (ℕ → Lines) → ℕ → Lines
+
+-- the number of the first test that fails, 0 where all pass
+abbrev pub firstOf : Lines → ℕ
+firstOf nothing = 0
+firstOf (line number passes) = check passes number
+firstOf (l ⨾ m) = firstOf l then firstOf m
+firstOf (table lines n) = inOrder (λ i. firstOf (lines i)) n
+
 -- lowest ≤ x ≤ highest
 abbrev pub within : ℕ → ℕ → ℕ → Bool
 within lowest highest x = leb lowest x && leb x highest

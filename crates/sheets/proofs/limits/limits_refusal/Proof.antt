@@ -4,7 +4,7 @@ use borrow.Author.Needs.{needs}
 use borrow.Author.Tests.{le-leb, lt-leb}
 use Rattle.model.proofs.Tests.{then-passes, then-fails, check-true, check-false}
 use Rattle.model.specs.Counted.{counted}
-use Rattle.model.specs.Refusal.{limitsRefusal, refusal9, N}
+use Rattle.model.specs.Refusal.{limitLines, N}
 use Rattle.sheets.proofs.Answers.{passed-by, failed-by}
 use Rattle.sheets.proofs.limits.limits_refusal.Statement.{statement}
 use Rattle.sheets.proofs.limits.limits_refusal.Tie as tie
@@ -13,7 +13,7 @@ value-fits-requires : tie.Need-value-fits-requires
 value-fits-requires c κs = c .pre .1
 
 returns : tie.Need-returns
-unfolding limitsRefusal refusal9
+unfolding limitLines
 returns c =
     let f = c .before .value-fits in
     sym (then-fails _ 8 _ (failed-by (f .ensures) (c .if1 .taken)))
@@ -22,7 +22,7 @@ queues-of-requires : tie.Need-queues-of-requires
 queues-of-requires c κs = search needs
 
 returns-2 : tie.Need-returns-2
-unfolding limitsRefusal refusal9
+unfolding limitLines
 returns-2 c =
     let s = counted (c .before .before .before .before .args .sheet) in
     let f = c .before .before .before .value-fits in
@@ -31,7 +31,7 @@ returns-2 c =
     check-false _ 10 (lt-leb (N s) 65535 (rw (c .before .queues-of .ensures) at (c .if2 .taken))))
 
 returns-3 : tie.Need-returns-3
-unfolding limitsRefusal refusal9
+unfolding limitLines
 returns-3 c =
     let s = counted (c .before .before .before .before .args .sheet) in
     let f = c .before .before .before .value-fits in

@@ -2,7 +2,7 @@
 use mathlib.Core.Path.{sym, _∙_}
 use borrow.Author.Needs.{needs}
 use Rattle.model.proofs.Tests.{then-passes, then-fails, then-on, then-stops}
-use Rattle.model.specs.Refusal.{fieldsRefusal}
+use Rattle.model.specs.Refusal.{fieldLines}
 use Rattle.sheets.proofs.Answers.{passed-by, failed-by, within-by}
 use Rattle.sheets.proofs.refusal.fields_refusal.Statement.{statement}
 use Rattle.sheets.proofs.refusal.fields_refusal.Tie as tie
@@ -11,7 +11,7 @@ bound-right-requires : tie.Need-bound-right-requires
 bound-right-requires c κs = search needs
 
 returns : tie.Need-returns
-unfolding fieldsRefusal
+unfolding fieldLines
 returns c =
     sym
     (then-fails _ 3 _ (failed-by (c .before .bound-right .ensures) (c .if1 .taken)))
@@ -20,7 +20,7 @@ speed-count-right-requires : tie.Need-speed-count-right-requires
 speed-count-right-requires c κs = search needs
 
 returns-2 : tie.Need-returns-2
-unfolding fieldsRefusal
+unfolding fieldLines
 returns-2 c =
     sym
     (then-passes _ 4 _ (passed-by (c .before .before .before .bound-right .ensures) (c .before .before .if1 .left)) ∙
@@ -30,7 +30,7 @@ speeds-refusal-requires : tie.Need-speeds-refusal-requires
 speeds-refusal-requires c κs = within-by 2 9 (c .before .speed-count-right .ensures) (c .if2 .left)
 
 returns-3 : tie.Need-returns-3
-unfolding fieldsRefusal
+unfolding fieldLines
 returns-3 c =
     sym
     (then-passes _ 4 _ (passed-by (c .before .before .before .before .before .bound-right .ensures) (c .before .before .before .before .if1 .left)) ∙
@@ -42,7 +42,7 @@ horizon-right-requires : tie.Need-horizon-right-requires
 horizon-right-requires c κs = search needs
 
 returns-4 : tie.Need-returns-4
-unfolding fieldsRefusal
+unfolding fieldLines
 returns-4 c =
     sym
     (then-passes _ 4 _ (passed-by (c .before .before .before .before .before .before .before .bound-right .ensures) (c .before .before .before .before .before .before .if1 .left)) ∙
@@ -54,7 +54,7 @@ job-count-right-requires : tie.Need-job-count-right-requires
 job-count-right-requires c κs = search needs
 
 returns-5 : tie.Need-returns-5
-unfolding fieldsRefusal
+unfolding fieldLines
 returns-5 c =
     sym
     (then-passes _ 4 _ (passed-by (c .before .before .before .before .before .before .before .before .before .bound-right .ensures) (c .before .before .before .before .before .before .before .before .if1 .left)) ∙
@@ -67,7 +67,7 @@ jobs-refusal-requires : tie.Need-jobs-refusal-requires
 jobs-refusal-requires c κs = within-by 1 32 (c .before .job-count-right .ensures) (c .if5 .left)
 
 returns-6 : tie.Need-returns-6
-unfolding fieldsRefusal
+unfolding fieldLines
 returns-6 c =
     c .jobs-refusal .ensures ∙
     sym

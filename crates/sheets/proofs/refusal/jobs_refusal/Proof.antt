@@ -4,7 +4,7 @@ use mathlib.Core.Path.{_≡_, refl, sym, ap, _∙_}
 use native.Mathlib.Omega.{arith}
 use Rattle.model.proofs.Tests.{in-order-more, in-order-first}
 use Rattle.model.specs.Counted.{counted}
-use Rattle.model.specs.Refusal.{jobsRefusal}
+use Rattle.model.specs.Refusal.{jobsRefusal, jobsLines}
 use Rattle.model.specs.Tests.{inOrder}
 use Rattle.sheets.proofs.refusal.jobs_refusal.Statement.{statement}
 use Rattle.sheets.proofs.refusal.jobs_refusal.Tie as tie
@@ -16,14 +16,14 @@ abbrev μ-loop : tie.MeasureT-loop
 μ-loop sheet place₀ place = sheet .«job_count» - place
 
 loop-holds : tie.Need-loop-holds Inv-loop μ-loop
-unfolding jobsRefusal inOrder
+unfolding jobsLines inOrder
 loop-holds c = (omega arith, refl)
 
 refusal-at-job-requires : tie.Need-refusal-at-job-requires Inv-loop μ-loop
 refusal-at-job-requires c κs = (c .if1 .taken, c .before .before .before .pre)
 
 returns : tie.Need-returns Inv-loop μ-loop
-unfolding jobsRefusal
+unfolding jobsLines
 returns c =
     let sheet = c .before .before .before .before .before .args .sheet in
     let l = c .before .before .before .before .loop in
@@ -38,7 +38,7 @@ loop-less : tie.Need-loop-less Inv-loop μ-loop
 loop-less c = omega arith
 
 loop-again : tie.Need-loop-again Inv-loop μ-loop
-unfolding jobsRefusal
+unfolding jobsLines
 loop-again c =
     let l = c .before .before .before .before .loop in
     (omega arith, in-order-more _ (l .place) (l .inv .1) (sym (c .before .refusal-at-job .ensures) ∙ c .if2 .left))
