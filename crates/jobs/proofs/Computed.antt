@@ -1,5 +1,5 @@
 -- Jobs worked by hand, and computed: which job is served, by how much, what is then due, who is late, and what each has been given.
-use Prim.Native.Nat.{ℕ, _+_, _-_}
+use Prim.Native.Nat.{ℕ}
 use mathlib.Core.Path.{_≡_, refl}
 use mathlib.Core.List.{List, [], _∷_}
 use native.Mathlib.Omega.{arith}

@@ -1,6 +1,6 @@
 -- Along a run: document 01's rule on the totals, "each speed is at least w(1)", holds exactly where some order of service misses no deadline,
 -- and exactly where earliest deadline first misses none; and by earliest deadline first the pool's queue is 01's, slot after slot.
-use Prim.Native.Nat.{ℕ, zero, suc, _-_, min, _≤_, _<_, zero-le}
+use Prim.Native.Nat.{ℕ, zero, suc, min, _≤_, _<_, zero-le}
 use mathlib.Core.Path.{_≡_, refl, sym, ap, _∙_, subst}
 use mathlib.Core.Bool.{Bool, true, false}
 use mathlib.Core.List.{List, [], _∷_}

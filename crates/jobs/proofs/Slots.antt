@@ -1,5 +1,5 @@
 -- One slot by earliest deadline first, as single jobs see it and as the queue's totals see it.
-use Prim.Native.Nat.{ℕ, suc, _+_, _-_, min, _≤_}
+use Prim.Native.Nat.{ℕ, suc, _+_, min, _≤_}
 use mathlib.Core.Path.{_≡_, sym, ap, _∙_}
 use mathlib.Core.Bool.{cond}
 use mathlib.Core.List.{[], _∷_}

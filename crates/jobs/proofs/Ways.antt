@@ -1,7 +1,7 @@
 -- A way is good, as document 01 says it of totals, exactly where it is in time, as single jobs see it: where with some order of service beside
 -- it no job is ever late and every pool reached can be finished; and earliest deadline first is such an order. So the least over the good
 -- ways is the least over those that are in time.
-use Prim.Native.Nat.{ℕ, zero, suc, _-_, _≤_}
+use Prim.Native.Nat.{ℕ, zero, suc, _-_}
 use mathlib.Core.Path.{_≡_, sym, _∙_, subst}
 use mathlib.Core.List.{List, [], _∷_}
 use mathlib.Core.Logic.{_↔_}

@@ -50,7 +50,7 @@ sheetBytes s =
     (code (s .jobCount) ++
     jobBytes s (s .jobCount)))))
 
--- "Planner, writer and row: 4 to 10, 11": `room` is the length of the lent buffer
+-- "Planner, writer and row: 4 to 10, 11"; "11: a lent buffer shorter than needed", whose length is `room`
 unfoldable pub writeLines : Counted → ℕ → Lines
 writeLines s room = sheetLines s ⨾ line 11 (leb (length (sheetBytes s)) room)
 

@@ -88,7 +88,7 @@ valuesNeeded s = suc (s .horizon) * N s
 abbrev pub planNeeded : Counted → ℕ
 planNeeded s = s .horizon * N s
 
--- "Planner, writer and row: 4 to 10, 11"
+-- "Planner, writer and row: 4 to 10, 11"; "11: a lent buffer shorter than needed", whose lengths are the rooms
 unfoldable pub planLines : Counted → (valuesRoom planRoom : ℕ) → Lines
 planLines s valuesRoom planRoom = sheetLines s ⨾ line 11 (leb (valuesNeeded s) valuesRoom && leb (planNeeded s) planRoom)
 

@@ -29,7 +29,8 @@ queueOf s x = queueIn (s .bound) (x .queue)
 abbrev pub queueRight : Counted → State → Bool
 queueRight s x = bearableIn (M s) (s .bound) (x .queue)
 
--- 13 whole: ".. the slot is above T, or the energy is above the slot number times the greatest energy"
+-- 13 whole: "13: the queue falls or is not bearable, an unused position is not zero, the slot is above T, or the energy is above the slot
+-- number times the greatest energy"
 unfoldable pub stateRight : Counted → State → Bool
 stateRight s x = queueRight s x && leb (x .slot) (s .horizon) && leb (x .energy) (x .slot * greatestEnergy s)
 
@@ -60,7 +61,7 @@ planByte s plan x = getD plan (placeOfQueue s (x .slot) (queueOf s x)) 0
 unfoldable pub byteRight : Counted → State → ℕ → Bool
 byteRight s x byte = onSheet s byte && leb (total (queueOf s x) 1) byte
 
--- "Speed: 4 to 10, 11, 13, 14, 16"
+-- "Speed: 4 to 10, 11, 13, 14, 16"; "14: the state's slot is T"
 unfoldable pub speedLines : Counted → List ℕ → State → Lines
 speedLines s plan x =
     rowLines s (length plan) ⨾

@@ -1,10 +1,23 @@
--- How document 01's tests are put together: a test with its number, several tests in order; and the small loops over places 0 to n-1 and
--- lists that all the rules are said with.
+-- How document 01's tests are put together: the lines of a call, which are its tests in order, each with its number; and the small loops over
+-- places 0 to n-1 and lists that all the rules are said with.
 use Prim.Native.Nat.{ℕ, zero, suc, max}
 use mathlib.Core.Bool.{Bool, true, false, cond, _&&_, _||_}
 use mathlib.Core.List.{List, [], _∷_, _++_}
 use lib.Dec.{leb, ltb}
 use lib.ListN.{take, replicate}
+
+-- The lines of a call: its numbers in the order of 01's last paragraphs of "Numbers returned", each with the test that 01's table gives it.
+-- A number may stand in several lines
+infixr 20 _⨾_
+pub data Lines : Type 0 where
+  -- no test
+  nothing : Lines
+  -- one test, by its number and whether it passes
+  line : ℕ → Bool → Lines
+  -- tests and then others
+  _⨾_ : Lines → Lines → Lines
+  -- for each place from 0 to n-1 its tests
+  table : (ℕ → Lines) → ℕ → Lines
 
 -- a test that passes gives 0, one that fails gives its number
 abbrev pub check : Bool → ℕ → ℕ
@@ -21,19 +34,7 @@ unfoldable pub inOrder : (ℕ → ℕ) → ℕ → ℕ
 inOrder number zero = 0
 inOrder number (suc n) = inOrder number n then number n
 
--- Tests in order, each with its number, as 01's lists give them. A number may stand in several lines
-infixr 20 _⨾_
-pub data Lines : Type 0 where
-  -- no test
-  nothing : Lines
-  -- one test, by its number and whether it passes
-  line : ℕ → Bool → Lines
-  -- tests and then others
-  _⨾_ : Lines → Lines → Lines
-  -- for each place from 0 to n-1 its tests
-  table : (ℕ → Lines) → ℕ → Lines
-
--- the number of the first test that fails, 0 where all pass
+-- what a call returns: the number of its first line that fails, 0 where all pass
 abbrev pub firstOf : Lines → ℕ
 firstOf nothing = 0
 firstOf (line number passes) = check passes number
