@@ -18,7 +18,7 @@ use Rattle.jobs.specs.Runs.{Slot, ArrivalsRight, afterSlot, nextPool, po
 use Rattle.jobs.specs.Service.{Service, Serves, earliest}
 use Rattle.jobs.proofs.Sums.{due-more, serves-leaves}
 use Rattle.jobs.proofs.Earliest.{earliest-serves}
-use Rattle.jobs.proofs.Slots.{total-of, due-next, earliest-slot, earliest-on-time-queue, on-time-enough, next-slots, arrived-on-time, arrived-before}
+use Rattle.jobs.proofs.Slots.{total-of, due-next, earliest-slot, on-time-enough, next-slots, arrived-before, earliest-next}
 
 -- the totals of w are nowhere above what is due of the pool
 abbrev pub NowhereAbove : Queue → Pool → Type 0
@@ -94,12 +94,11 @@ pub enough-earliest : (D : ℕ) → 1 ≤ D → (p : Pool) → SlotsUpto D p →
 unfolding earliestRun
 enough-earliest D l p h n [] a e = n
 enough-earliest D l p h n (x ∷ run) a e =
-    let t = earliest (x .speed) p in (
+    let (slots, on-time) = earliest-next D l p h x (a .0) (a .1) (e .0) in (
       n,
       earliest-serves (x .speed) p,
-      enough-earliest D l (nextPool p t x) (next-slots D p t x h (a .1))
-          (arrived-on-time (afterSlot p t) (x .size) (x .deadline) (a .0) (earliest-on-time-queue D (x .speed) p l .1 (e .0)))
-          run (a .2) (subst (λ (w : Queue). Enough w run) (sym (earliest-slot D p h x)) (e .1)),
+      enough-earliest D l (nextPool p (earliest (x .speed) p) x) slots on-time run (a .2)
+          (subst (λ (w : Queue). Enough w run) (sym (earliest-slot D p h x)) (e .1)),
     )
 
 -- the theorem: from a pool none of whose jobs is late or has more than D slots left, along any run whose arrivals are due within 1 to D slots
@@ -122,6 +121,21 @@ totals-tell D l p h n run a =
     enough : SomeOrder p run → Enough (queueOfPool D p) run
     enough m = misses-none-enough (queueOfPool D p) p (own-nowhere-above D p) run (m .0) (m .1)
 
+-- the queue after a run, by 01's rule
+abbrev queueAfter : Queue → List Slot → Queue
+queueAfter w [] = w
+queueAfter w (x ∷ run) = queueAfter (oneSlot w (x .speed) (x .size) (x .deadline)) run
+
+-- by earliest deadline first it is the pool's, and still no job has more than D slots left
+earliest-after : (D : ℕ) (p : Pool) → SlotsUpto D p → (run : List Slot) → ArrivalsRight D run →
+    (queueOfPool D (poolAfter p run (earliestRun p run)) ≡ queueAfter (queueOfPool D p) run) × SlotsUpto D (poolAfter p run (earliestRun p run))
+unfolding poolAfter earliestRun
+earliest-after D p h [] right = (refl, h)
+earliest-after D p h (x ∷ run) right =
+    let t = earliest (x .speed) p in
+    let (same, slots) = earliest-after D (nextPool p t x) (next-slots D p t x h (right .1)) run (right .2) in
+    (same ∙ ap (λ (w : Queue). queueAfter w run) (earliest-slot D p h x), slots)
+
 -- a run of n slots, of which slot t is `slot t`, and the queues before them: `queue 0` at the start, and each next one by 01's rule
 pub record QueuesAlong (D : ℕ) (slot : ℕ → Slot) (queue : ℕ → Queue) (n : ℕ) : Type 0 where
   pub deadline-low : (t : ℕ) → t < n → 1 ≤ slot t .deadline
@@ -129,33 +143,39 @@ pub record QueuesAlong (D : ℕ) (slot : ℕ → Slot) (queue : ℕ → Queue) (
   pub enough : (t : ℕ) → t < n → total (queue t) 1 ≤ slot t .speed
   pub next : (t : ℕ) → t < n → queue (suc t) ≡ oneSlot (queue t) (slot t .speed) (slot t .size) (slot t .deadline)
 
--- without its first slot
-after-first : {D : ℕ} {slot : ℕ → Slot} {queue : ℕ → Queue} {n : ℕ} → QueuesAlong D slot queue (suc n) →
-    QueuesAlong D (λ t. slot (suc t)) (λ t. queue (suc t)) n
-after-first along = record {
-  deadline-low = λ t h. along .deadline-low (suc t) (omega arith);
-  deadline-high = λ t h. along .deadline-high (suc t) (omega arith);
-  enough = λ t h. along .enough (suc t) (omega arith);
-  next = λ t h. along .next (suc t) (omega arith);
-}
+-- what it is as a list of slots
+along-run : (D : ℕ) (slot : ℕ → Slot) (queue : ℕ → Queue) (n : ℕ) → QueuesAlong D slot queue n →
+    ArrivalsRight D (listed slot n) × Enough (queue 0) (listed slot n) × (queueAfter (queue 0) (listed slot n) ≡ queue n)
+unfolding listed
+along-run D slot queue zero along = (tt, tt, refl)
+along-run D slot queue (suc n) along =
+    let first = zero-lt-suc n in
+    let run = listed (λ t. slot (suc t)) n in
+    let (right, enough, last) = along-run D (λ t. slot (suc t)) (λ t. queue (suc t)) n after-first in (
+      (along .deadline-low 0 first, along .deadline-high 0 first, right),
+      (along .enough 0 first, subst (λ (w : Queue). Enough w run) (along .next 0 first) enough),
+      ap (λ (w : Queue). queueAfter w run) (sym (along .next 0 first)) ∙ last,
+    )
+  where
+    after-first : QueuesAlong D (λ t. slot (suc t)) (λ t. queue (suc t)) n
+    after-first = record {
+      deadline-low = λ t h. along .deadline-low (suc t) (omega arith);
+      deadline-high = λ t h. along .deadline-high (suc t) (omega arith);
+      enough = λ t h. along .enough (suc t) (omega arith);
+      next = λ t h. along .next (suc t) (omega arith);
+    }
 
--- earliest deadline first misses no deadline, and the queue of the pool after the run is the last of these
+-- so earliest deadline first misses no deadline, and the queue of the pool after it is the last of these
 pub along-earliest : (D : ℕ) → 1 ≤ D → (slot : ℕ → Slot) (queue : ℕ → Queue) (n : ℕ) → QueuesAlong D slot queue n →
     (p : Pool) → SlotsUpto D p → NoneLate p → queueOfPool D p ≡ queue 0 →
     EarliestFirst p (listed slot n) ×
     (queueOfPool D (poolAfter p (listed slot n) (earliestRun p (listed slot n))) ≡ queue n) ×
     SlotsUpto D (poolAfter p (listed slot n) (earliestRun p (listed slot n)))
-unfolding listed poolAfter earliestRun
-along-earliest D l slot queue zero along p h none e = (none, e, h)
-along-earliest D l slot queue (suc n) along p h none e =
-    let x = slot 0 in
-    let first = zero-lt-suc n in
-    let t = earliest (x .speed) p in
-    let enough = subst (λ (w : Queue). total w 1 ≤ x .speed) (sym e) (along .enough 0 first) in
-    let on-time = earliest-on-time-queue D (x .speed) p l .1 enough in
-    let rest =
-    along-earliest D l (λ t. slot (suc t)) (λ t. queue (suc t)) n (after-first along) (nextPool p t x)
-    (next-slots D p t x h (along .deadline-high 0 first))
-    (arrived-on-time (afterSlot p t) (x .size) (x .deadline) (along .deadline-low 0 first) on-time)
-    (earliest-slot D p h x ∙ ap (λ (w : Queue). oneSlot w (x .speed) (x .size) (x .deadline)) e ∙ sym (along .next 0 first)) in
-    ((none, earliest-serves (x .speed) p, rest .0), rest .1, rest .2)
+along-earliest D l slot queue n along p h none e =
+    let run = listed slot n in
+    let (right, enough, last) = along-run D slot queue n along in
+    let (same, slots) = earliest-after D p h run right in (
+      enough-earliest D l p h none run right (subst (λ (w : Queue). Enough w run) (sym e) enough),
+      same ∙ ap (λ (w : Queue). queueAfter w run) e ∙ last,
+      slots,
+    )

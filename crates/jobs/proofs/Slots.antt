@@ -109,10 +109,20 @@ pub next-slots : (D : ℕ) (p : Pool) (t : Service) (x : Slot) → SlotsUpto D p
 next-slots D p t x h l = arrived-slots D (afterSlot p t) (x .size) (x .deadline) (off-slots D (spend p t) (spent-slots D p t h)) l
 
 -- an arrival that has a slot left is not late
-pub arrived-on-time : (p : Pool) (c d : ℕ) → 1 ≤ d → NoneLate p → NoneLate (arrived p c d)
+arrived-on-time : (p : Pool) (c d : ℕ) → 1 ≤ d → NoneLate p → NoneLate (arrived p c d)
 arrived-on-time [] c d l h = (λ late. omega (arith, late .1), tt)
 arrived-on-time (j ∷ p) c d l h = (h .0, arrived-on-time p c d l (h .1))
 
 pub arrived-before : (p : Pool) (c d : ℕ) → NoneLate (arrived p c d) → NoneLate p
 arrived-before [] c d h = tt
 arrived-before (j ∷ p) c d h = (h .0, arrived-before p c d (h .1))
+
+-- so after a slot of earliest deadline first at a speed of at least w(1) again no job is late or has more than D slots left
+pub earliest-next : (D : ℕ) → 1 ≤ D → (p : Pool) → SlotsUpto D p → (x : Slot) → 1 ≤ x .deadline → x .deadline ≤ D →
+    total (queueOfPool D p) 1 ≤ x .speed →
+    SlotsUpto D (nextPool p (earliest (x .speed) p) x) × NoneLate (nextPool p (earliest (x .speed) p) x)
+earliest-next D l p h x low high enough =
+    let t = earliest (x .speed) p in (
+      next-slots D p t x h high,
+      arrived-on-time (afterSlot p t) (x .size) (x .deadline) low (earliest-on-time-queue D (x .speed) p l .1 enough),
+    )

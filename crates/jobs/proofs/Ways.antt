@@ -24,7 +24,7 @@ use Rattle.jobs.specs.Pool.{Pool, dueWithin, queueOfPool, NoneLate, Slot
 use Rattle.jobs.specs.Runs.{afterSlot, nextPool, MissesNone}
 use Rattle.jobs.specs.Service.{earliest}
 use Rattle.jobs.proofs.Earliest.{earliest-serves}
-use Rattle.jobs.proofs.Slots.{total-of, earliest-slot, earliest-on-time-queue, on-time-enough, next-slots, arrived-on-time, arrived-before}
+use Rattle.jobs.proofs.Slots.{total-of, earliest-slot, on-time-enough, next-slots, arrived-before, earliest-next}
 use Rattle.jobs.proofs.Runs.{NowhereAbove, own-nowhere-above, next-nowhere-above}
 use Rattle.jobs.proofs.Given.{misses-none-done}
 use Rattle.jobs.proofs.Finishable.{bearable-finishable, own-never-falls}
@@ -33,28 +33,6 @@ use Rattle.jobs.proofs.Finishable.{bearable-finishable, own-never-falls
 module _ (s : Counted) (ranged : Ranged s) where
   abbrev D : ℕ
   D = s .bound
-
-  -- along a list on which a way is good from the pool's queue, earliest deadline first beside it is in time
-  along-in-time : (k : ℕ) (p : Pool) → SlotsUpto D p → NoneLate p → (σ : Way) (l : List ℕ) → Events (s .jobCount) k l →
-      Along (processOf s) (queueOfPool D p) σ l → InTimeAlong s p σ (earliestOrder s p σ) l
-  unfolding processOf nextQueue earliestOrder
-  along-in-time zero p h n σ [] e a = (n, bearable-finishable D (ranged .bound-low) p h n (M s) .0 a)
-  along-in-time zero p h n σ (i ∷ l) e a = absurd e
-  along-in-time (suc k) p h n σ [] e a = absurd e
-  along-in-time (suc k) p h n σ (i ∷ l) e a =
-      let x = slotOf s (σ []) i in
-      let t = earliest (σ []) p in
-      let enough = leb→le (total (queueOfPool D p) 1) (σ []) (a .2) in
-      let on-time = earliest-on-time-queue D (σ []) p (ranged .bound-low) .1 enough in (
-        n,
-        bearable-finishable D (ranged .bound-low) p h n (M s) .0 (a .0),
-        a .1,
-        earliest-serves (σ []) p,
-        along-in-time k (nextPool p t x) (next-slots D p t x h (ranged .deadline-high i (e .0)))
-            (arrived-on-time (afterSlot p t) (x .size) (x .deadline) (ranged .deadline-low i (e .0)) on-time)
-            (later σ i) l (e .1)
-            (subst (λ (w : Queue). Along (processOf s) w (later σ i) l) (sym (earliest-slot D p h x)) (a .3)),
-      )
 
   in-time-starts : (p : Pool) (σ : Way) (o : Order) (l : List ℕ) → InTimeAlong s p σ o l → NoneLate p
   in-time-starts p σ o [] a = a .0
@@ -69,14 +47,14 @@ module _ (s : Counted) (ranged : Ranged s) where
       (no-longer-by w (queueOfPool D p) long (λ i l. omega (arith, above (suc i), total-of D p (suc i) (omega arith) (omega arith)))) b
 
   -- along a list on which some order of service is in time, the queue by totals is bearable and each speed at least w(1)
-  in-time-along : (k : ℕ) (w : Queue) (p : Pool) → length w ≡ D → NeverFalls w → NowhereAbove w p → SlotsUpto D p →
+  good-where-in-time : (k : ℕ) (w : Queue) (p : Pool) → length w ≡ D → NeverFalls w → NowhereAbove w p → SlotsUpto D p →
       (σ : Way) (o : Order) (l : List ℕ) → Events (s .jobCount) k l → InTimeAlong s p σ o l → Along (processOf s) w σ l
   unfolding processOf nextQueue
-  in-time-along zero w p len f above h σ o [] e a =
+  good-where-in-time zero w p len f above h σ o [] e a =
       finishable-bearable w p len f above (bearable-finishable D (ranged .bound-low) p h (a .0) (M s) .1 (a .1))
-  in-time-along zero w p len f above h σ o (i ∷ l) e a = absurd e
-  in-time-along (suc k) w p len f above h σ o [] e a = absurd e
-  in-time-along (suc k) w p len f above h σ o (i ∷ l) e a =
+  good-where-in-time zero w p len f above h σ o (i ∷ l) e a = absurd e
+  good-where-in-time (suc k) w p len f above h σ o [] e a = absurd e
+  good-where-in-time (suc k) w p len f above h σ o (i ∷ l) e a =
       let x = slotOf s (σ []) i in
       let t = o [] in
       let after = in-time-starts (nextPool p t x) (later σ i) (laterOrder o i) l (a .4) in
@@ -84,10 +62,30 @@ module _ (s : Counted) (ranged : Ranged s) where
         finishable-bearable w p len f above (bearable-finishable D (ranged .bound-low) p h (a .0) (M s) .1 (a .1)),
         a .2,
         le→leb (total w 1) (σ []) (le-trans (above 1) (on-time-enough (σ []) p t (a .3) on-time)),
-        in-time-along k (oneSlot w (σ []) (x .size) (x .deadline)) (nextPool p t x) (length-slot w (σ []) (x .size) (x .deadline) ∙ len)
+        good-where-in-time k (oneSlot w (σ []) (x .size) (x .deadline)) (nextPool p t x) (length-slot w (σ []) (x .size) (x .deadline) ∙ len)
             (arrive-never-falls (run w (σ [])) (x .size) (x .deadline) (run-never-falls w (σ []) f))
             (next-nowhere-above w p t x (a .3) above) (next-slots D p t x h (ranged .deadline-high i (e .0))) (later σ i) (laterOrder o i) l
             (e .1) (a .4),
+      )
+
+  -- along a list on which a way is good from the pool's queue, earliest deadline first beside it is in time
+  in-time-where-good : (k : ℕ) (p : Pool) → SlotsUpto D p → NoneLate p → (σ : Way) (l : List ℕ) → Events (s .jobCount) k l →
+      Along (processOf s) (queueOfPool D p) σ l → InTimeAlong s p σ (earliestOrder s p σ) l
+  unfolding processOf nextQueue earliestOrder
+  in-time-where-good zero p h n σ [] e a = (n, bearable-finishable D (ranged .bound-low) p h n (M s) .0 a)
+  in-time-where-good zero p h n σ (i ∷ l) e a = absurd e
+  in-time-where-good (suc k) p h n σ [] e a = absurd e
+  in-time-where-good (suc k) p h n σ (i ∷ l) e a =
+      let x = slotOf s (σ []) i in
+      let enough = leb→le (total (queueOfPool D p) 1) (σ []) (a .2) in
+      let (slots, on-time) =
+      earliest-next D (ranged .bound-low) p h x (ranged .deadline-low i (e .0)) (ranged .deadline-high i (e .0)) enough in (
+        n,
+        bearable-finishable D (ranged .bound-low) p h n (M s) .0 (a .0),
+        a .1,
+        earliest-serves (σ []) p,
+        in-time-where-good k (nextPool p (earliest (σ []) p) x) slots on-time (later σ i) l (e .1)
+            (subst (λ (w : Queue). Along (processOf s) w (later σ i) l) (sym (earliest-slot D p h x)) (a .3)),
       )
 
   -- jobs none of which is late or has more than D slots left
@@ -97,20 +95,20 @@ module _ (s : Counted) (ranged : Ranged s) where
         Good (processOf s) (s .jobCount) k (queueOfPool D p) σ
     known-good k σ known l e =
         let len = length-totals D (dueWithin p) in
-        in-time-along k (queueOfPool D p) p len (λ i l. own-never-falls D p i (omega (arith, len))) (own-nowhere-above D p) h σ
+        good-where-in-time k (queueOfPool D p) p len (λ i l. own-never-falls D p i (omega (arith, len))) (own-nowhere-above D p) h σ
         (known l e .0) l e (known l e .1)
 
     -- the theorem: a way is good exactly where it is in time
     pub good-in-time : (k : ℕ) (σ : Way) → Good (processOf s) (s .jobCount) k (queueOfPool D p) σ ↔ InTime s k p σ
     good-in-time k σ = (
-      λ good. (earliestOrder s p σ, λ l e. along-in-time k p h n σ l e (good l e)),
+      λ good. (earliestOrder s p σ, λ l e. in-time-where-good k p h n σ l e (good l e)),
       λ served. known-good k σ (λ l e. (served .0, served .1 l e)),
     )
 
     -- and then earliest deadline first is in time beside it; an order that knows the entries to come could do no more
     pub earliest-in-time : (k : ℕ) (σ : Way) → ((l : List ℕ) → Events (s .jobCount) k l → (o : Order) × InTimeAlong s p σ o l) →
         (l : List ℕ) → Events (s .jobCount) k l → InTimeAlong s p σ (earliestOrder s p σ) l
-    earliest-in-time k σ known l e = along-in-time k p h n σ l e (known-good k σ known l e)
+    earliest-in-time k σ known l e = in-time-where-good k p h n σ l e (known-good k σ known l e)
 
     -- so the value of the queue is the value of the jobs
     pub value-of-pool : (t : ℕ) (r : Option ℕ) → IsValueAt s t (queueOfPool D p) r → IsValueOfPool s t p r
