@@ -8,8 +8,8 @@ use mathlib.Core.Logic.{⊎-elim, _⊎_, inl, inr, _↔_}
 use mathlib.Core.Option.{Option, none, some}
 use native.Mathlib.Nat.{suc-ne-zero, not-suc-le-zero, zero-lt-suc, le-refl, eq-or-lt-of-le, le-of-suc-le-suc}
 use native.Mathlib.Omega.{arith}
-use borrow.Author.Tests.{eqb-true, eq-eqb, ne-eqb}
-use lib.Dec.{T, eqb}
+use borrow.Author.Tests.{eqb-true, eq-eqb}
+use lib.Dec.{T, T-not, not-T, eqb, eqb→eq}
 use Rattle.model.specs.Plan.{number12}
 use Rattle.model.specs.Tests.{Lines, nothing, line, _⨾_, table, firstOf, check, _then_, inOrder}
 use Rattle.model.proofs.Tests.{check-passes, then-on, in-order-all}
@@ -142,20 +142,11 @@ gives numbers {answer = zero} p t = inl refl
 gives numbers {answer = suc k} {l = l} p t =
     inr (one-of numbers (suc k) (fails-so (among numbers) l (suc k) p (t .refused (suc k) (zero-lt-suc k) .0 refl)))
 
--- a number other than another, and a test that holds and does not
-
-other : (m n : ℕ) → (m ≡ n → ⊥) → T (not (eqb m n))
-other m n d = rw (ne-eqb m n d) tt
-
-both : (b : Bool) → T (not b) → T b → ⊥
-both true x y = x
-both false x y = y
-
 -- lines of listed numbers are without one that is not listed
 without : (numbers : List ℕ) (n : ℕ) → T (not (among numbers n)) → (l : Lines) → Each (among numbers) l → Without n l
 without numbers n unlisted nothing p = tt
 without numbers n unlisted (line number passes) p =
-    other number n (λ e. both (among numbers n) unlisted (subst (λ (m : ℕ). T (among numbers m)) e p))
+    not-T (eqb number n) (λ t. T-not (among numbers n) unlisted (subst (λ (m : ℕ). T (among numbers m)) (eqb→eq number n t) p))
 without numbers n unlisted (l ⨾ m) p = (without numbers n unlisted l (p .0), without numbers n unlisted m (p .1))
 without numbers n unlisted (table f k) p = λ i. without numbers n unlisted (f i) (p i)
 

@@ -10,13 +10,13 @@ use Rattle.model.specs.Tests.{Lines}
 use Rattle.demands.proofs.InOrder.{Each}
 
 -- the test holds of each of these numbers
-abbrev pub Holds : (ℕ → Bool) → List ℕ → Type 0
-Holds so [] = Unit {0}
-Holds so (n ∷ l) = T (so n) × Holds so l
+abbrev pub EachNumber : (ℕ → Bool) → List ℕ → Type 0
+EachNumber so [] = Unit {0}
+EachNumber so (n ∷ l) = T (so n) × EachNumber so l
 
 module _ (so : ℕ → Bool) (s : Counted) where
   -- 4 to 8, and those of what is tested where a number is read
-  pub each-field : (reading : ℕ → Lines) → ((k : ℕ) → Each so (reading k)) → Holds so (4 ∷ 5 ∷ 6 ∷ 7 ∷ 8 ∷ []) → Each so (fieldLines reading s)
+  pub each-field : (reading : ℕ → Lines) → ((k : ℕ) → Each so (reading k)) → EachNumber so (4 ∷ 5 ∷ 6 ∷ 7 ∷ 8 ∷ []) → Each so (fieldLines reading s)
   unfolding fieldLines speedsLines jobsLines
   each-field reading r h =
       let five = h .1 .0 in
@@ -26,11 +26,11 @@ module _ (so : ℕ → Bool) (s : Counted) where
       (r _, (h .0, (r _, (five, ((λ j. (r _, (five, (r _, six)))), (r _, (seven, (r _, (eight, (λ i. (r _, (eight, (r _, (eight, (r _, eight)))))))))))))))
 
   -- 9 and 10
-  pub each-limit : (queues : ℕ) → Holds so (9 ∷ 10 ∷ []) → Each so (limitLines queues s)
+  pub each-limit : (queues : ℕ) → EachNumber so (9 ∷ 10 ∷ []) → Each so (limitLines queues s)
   unfolding limitLines
   each-limit queues h = (h .0, h .1 .0)
 
   -- 4 to 10, of a sheet in memory
-  pub each-of-sheet : Holds so (4 ∷ 5 ∷ 6 ∷ 7 ∷ 8 ∷ []) → Holds so (9 ∷ 10 ∷ []) → Each so (sheetLines s)
+  pub each-of-sheet : EachNumber so (4 ∷ 5 ∷ 6 ∷ 7 ∷ 8 ∷ []) → EachNumber so (9 ∷ 10 ∷ []) → Each so (sheetLines s)
   unfolding sheetLines linesGiven
   each-of-sheet h k = (each-field _ (λ k. tt) h, each-limit _ k)

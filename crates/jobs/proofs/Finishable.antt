@@ -16,13 +16,14 @@ use Rattle.jobs.proofs.Sums.{due-more}
 use Rattle.jobs.proofs.Slots.{total-of}
 use Rattle.jobs.proofs.Runs.{TotalsTell, totals-tell}
 
-nothing : (b : Bool) → _≡_ {A = ℕ} (cond b 0 0) 0
-nothing true = refl
-nothing false = refl
+-- an arrival of no work adds nothing, due or not
+adds-nothing : (b : Bool) → _≡_ {A = ℕ} (cond b 0 0) 0
+adds-nothing true = refl
+adds-nothing false = refl
 
 -- the totals after a slot in which nothing comes
 total-quiet : (w : Queue) (M u : ℕ) → 1 ≤ u → u ≤ length w → total (oneSlot w M 0 1) u ≡ total w (min (suc u) (length w)) - M
-total-quiet w M u h k = omega (arith, total-slot w M 0 1 u h k, nothing (leb 1 u))
+total-quiet w M u h k = omega (arith, total-slot w M 0 1 u h k, adds-nothing (leb 1 u))
 
 -- nowhere above u * M: each quiet slot at speed M is enough
 quiet-enough : (M : ℕ) (w : Queue) → 1 ≤ length w → ((u : ℕ) → u ≤ length w → total w u ≤ u * M) → (k : ℕ) → Enough w (quiet M k)
