@@ -1,0 +1,55 @@
+-- `print_hex_bytes` is safe and ends.
+use Prim.Native.Nat.{_≤_, _-_}
+use lib.ListN.{length}
+use borrow.Author.Needs.{needs}
+use Rattle.calls.proofs.print.print_hex_bytes.Statement.{statement}
+use Rattle.calls.proofs.print.print_hex_bytes.Tie as tie
+
+abbrev Inv-loop : tie.InvT-loop
+Inv-loop bytes from count at₀ left₀ at left = 0 ≤ at
+
+abbrev μ-loop : tie.MeasureT-loop
+μ-loop bytes from count at₀ left₀ at left = length bytes - at
+
+loop-holds : tie.Need-loop-holds Inv-loop μ-loop
+loop-holds c = search needs
+
+returns : tie.Need-returns Inv-loop μ-loop
+returns c = search needs
+
+shared-slice-read-print-hex : tie.Need-shared-slice-read-print-hex Inv-loop μ-loop
+shared-slice-read-print-hex c = search needs
+
+print-hex-requires : tie.Need-print-hex-requires Inv-loop μ-loop
+print-hex-requires c κs = search needs
+
+sub-left : tie.Need-sub-left Inv-loop μ-loop
+sub-left c = search needs
+
+add-at : tie.Need-add-at Inv-loop μ-loop
+add-at c = search needs
+
+loop-less : tie.Need-loop-less Inv-loop μ-loop
+loop-less c = search needs
+
+loop-again : tie.Need-loop-again Inv-loop μ-loop
+loop-again c = search needs
+
+returns-2 : tie.Need-returns-2 Inv-loop μ-loop
+returns-2 c = search needs
+
+pub print-hex-bytes-spec : {M : Type 1} → statement M
+print-hex-bytes-spec =
+    tie.close
+    (tie.spec
+    Inv-loop
+    μ-loop
+    loop-holds
+    returns
+    shared-slice-read-print-hex
+    print-hex-requires
+    sub-left
+    add-at
+    loop-less
+    loop-again
+    returns-2)

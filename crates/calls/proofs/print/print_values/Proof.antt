@@ -1,0 +1,59 @@
+-- `print_values` is safe and ends.
+use Prim.Native.Nat.{_≤_, _-_}
+use lib.ListN.{length}
+use borrow.Author.Needs.{needs}
+use Rattle.calls.proofs.print.print_values.Statement.{statement}
+use Rattle.calls.proofs.print.print_values.Tie as tie
+
+abbrev Inv-loop : tie.InvT-loop
+Inv-loop values from count at₀ left₀ at left = 0 ≤ at
+
+abbrev μ-loop : tie.MeasureT-loop
+μ-loop values from count at₀ left₀ at left = length values - at
+
+loop-holds : tie.Need-loop-holds Inv-loop μ-loop
+loop-holds c = search needs
+
+returns : tie.Need-returns Inv-loop μ-loop
+returns c = search needs
+
+mul-print-wide : tie.Need-mul-print-wide Inv-loop μ-loop
+mul-print-wide c = search needs
+
+shared-slice-read-print-wide : tie.Need-shared-slice-read-print-wide Inv-loop μ-loop
+shared-slice-read-print-wide c = search needs
+
+print-wide-requires : tie.Need-print-wide-requires Inv-loop μ-loop
+print-wide-requires c κs = search needs
+
+sub-left : tie.Need-sub-left Inv-loop μ-loop
+sub-left c = search needs
+
+add-at : tie.Need-add-at Inv-loop μ-loop
+add-at c = search needs
+
+loop-less : tie.Need-loop-less Inv-loop μ-loop
+loop-less c = search needs
+
+loop-again : tie.Need-loop-again Inv-loop μ-loop
+loop-again c = search needs
+
+returns-2 : tie.Need-returns-2 Inv-loop μ-loop
+returns-2 c = search needs
+
+pub print-values-spec : {M : Type 1} → statement M
+print-values-spec =
+    tie.close
+    (tie.spec
+    Inv-loop
+    μ-loop
+    loop-holds
+    returns
+    mul-print-wide
+    shared-slice-read-print-wide
+    print-wide-requires
+    sub-left
+    add-at
+    loop-less
+    loop-again
+    returns-2)
