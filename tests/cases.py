@@ -24,8 +24,8 @@ from dataclasses import dataclass, replace
 
 sys.dont_write_bytecode = True  # no folder of compiled files beside the tests
 from independent import (
-    NONE_VALUE, SHEET_A, SHEET_A_BYTES, Sheet, listing, memory_fields, plan_lent, plan_of,
-    read_sheet, refuse_lent_plan, refuse_sheet, row, sheet_bytes,
+    NONE_VALUE, SHEET_A, SHEET_A_BYTES, Sheet, memory_fields, plan_lent, plan_of, read_sheet,
+    row, write_listing, write_sheet,
 )
 from stepping import advance, at, speed, start
 
@@ -237,29 +237,6 @@ LISTED = [  # name, sheet, least energy, plan, bytes lent
     ("T 201", one(1, 201, 1, 0), 0, PLAN_A, 4),
     ("N 141,778", plain(5, 6), 0, PLAN_A, 4),
 ]
-
-
-def fill(lent, data):
-    """(number, length) of a call that is not refused and answers in lent bytes: 11 for "a lent
-    buffer shorter than needed", which "touches no lent place and reports zero for length";
-    else places "past the writer's length" are untouched."""
-    if len(lent) < len(data):
-        return 11, 0
-    lent[: len(data)] = data
-    return 0, len(data)
-
-
-def write_sheet(sheet, lent):
-    """(number, length). "Planner, writer and row: 4 to 10, 11"."""
-    number = refuse_sheet(sheet)
-    return (number, 0) if number else fill(lent, sheet_bytes(sheet))
-
-
-def write_listing(sheet, least, plan, lent):
-    """(number, length). 01 has no such call by itself: it is refused as the writer is, and
-    the plan is lent to it as it is to row."""
-    number = refuse_lent_plan(sheet, plan)
-    return (number, 0) if number else fill(lent, listing(sheet, least, plan))
 
 
 def spaced(numbers, form="d"):

@@ -29,6 +29,7 @@ The sheets of crates/walk_plans/data, each what it is for:
 
 import sys
 from dataclasses import dataclass
+from functools import lru_cache
 from itertools import islice
 from pathlib import Path
 
@@ -154,9 +155,7 @@ def refuse_too_large(sheet):
     greatest = max(1, *(energy for _, energy in sheet.speeds))
     scaled = sheet.horizon * greatest * sheet.weight_sum() ** sheet.horizon
     within(scaled, 0, 2**63 - 1, 9)
-    # One queue too many settles "N above 65,535"; the others need not be made.
-    queues = bearable_queues(sheet.bound, sheet.largest_speed())
-    within(sum(1 for _ in islice(queues, MOST_QUEUES + 1)), 0, MOST_QUEUES, 10)
+    within(count_queues(sheet), 0, MOST_QUEUES, 10)
 
 
 def read_sheet(data):
@@ -193,9 +192,16 @@ def bearable_queues(bound, largest_speed, queue=()):
         yield from bearable_queues(bound, largest_speed, (*queue, work))
 
 
+@lru_cache(maxsize=None)
+def count_bearable(bound, largest_speed):
+    """How many bearable queues there are. One too many settles "N above 65,535"; the others
+    need not be made."""
+    return sum(1 for _ in islice(bearable_queues(bound, largest_speed), MOST_QUEUES + 1))
+
+
 def count_queues(sheet):
-    """N."""
-    return sum(1 for _ in bearable_queues(sheet.bound, sheet.largest_speed()))
+    """N, where it is not above 65,535."""
+    return count_bearable(sheet.bound, sheet.largest_speed())
 
 
 def run_slot(queue, speed):
@@ -252,9 +258,11 @@ def plan_row(sheet, slot, choices_of_queues, numbers, next_values):
     return values, speeds
 
 
+@lru_cache(maxsize=64)
 def plan_sheet(sheet):
     """(number, N, least energy, values, plan), the last two for every slot and every
-    bearable queue, also those that "can't be reached from empty"."""
+    bearable queue, also those that "can't be reached from empty". It is kept, and whoever
+    asks again gets the same lists: they are to be looked at alone."""
     number = refuse_sheet(sheet)
     if number != 0:
         return number, 0, 0, [], []
@@ -323,6 +331,29 @@ def listing(sheet, least, plan):
         speeds = "".join(f" {byte}" for byte in row(sheet, plan, slot))
         lines.append(f"{slot}:{speeds}\n")
     return "".join(lines).encode()
+
+
+def fill(lent, data):
+    """(number, length) of a call that is not refused and answers in lent bytes: 11 for "a lent
+    buffer shorter than needed", which "touches no lent place and reports zero for length";
+    else places "past the writer's length" are untouched."""
+    if len(lent) < len(data):
+        return 11, 0
+    lent[: len(data)] = data
+    return 0, len(data)
+
+
+def write_sheet(sheet, lent):
+    """(number, length). "Planner, writer and row: 4 to 10, 11"."""
+    number = refuse_sheet(sheet)
+    return (number, 0) if number else fill(lent, sheet_bytes(sheet))
+
+
+def write_listing(sheet, least, plan, lent):
+    """(number, length). 01 has no such call by itself: it is refused as the writer is, and
+    the plan is lent to it as it is to row."""
+    number = refuse_lent_plan(sheet, plan)
+    return (number, 0) if number else fill(lent, listing(sheet, least, plan))
 
 
 def program(data):

@@ -27,6 +27,7 @@ Part 3, the sheet's own plan, states good and bad of queue (0, 2):
 
 import sys
 from dataclasses import dataclass
+from functools import lru_cache
 from itertools import product
 from pathlib import Path
 
@@ -54,14 +55,20 @@ def at(totals, slot=0, energy=0):
     return State((*totals, *[0] * (POSITIONS - len(totals))), slot, energy)
 
 
+@lru_cache(maxsize=None)
+def queue_numbers(bound, largest_speed):
+    """The number of each bearable queue, in a dictionary by its D totals."""
+    queues = bearable_queues(bound, largest_speed)
+    return {queue: place for place, queue in enumerate(queues)}
+
+
 def accepted_queues(sheet):
-    """The number of each bearable queue, in a dictionary by its D totals, once the sheet
-    has passed: it "is tested 4 to 10 in that field order by every call"."""
+    """The queues of a sheet by number, once it has passed: it "is tested 4 to 10 in that
+    field order by every call"."""
     number = refuse_sheet(sheet)
     if number != 0:
         raise Refused(number)
-    queues = bearable_queues(sheet.bound, sheet.largest_speed())
-    return {queue: place for place, queue in enumerate(queues)}
+    return queue_numbers(sheet.bound, sheet.largest_speed())
 
 
 def refuse_queue(sheet, numbers, queue):
