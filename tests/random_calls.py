@@ -184,13 +184,13 @@ def past_lines(chance, sheet):
 
 
 def put_sheet(script, sheet):
-    """The sheet into memory: read, or set line by line in any order."""
-    chance = script.chance
+    """The sheet into memory: read or, where that is refused or by chance is not tried, set line
+    by line in any order."""
+    chance, lines = script.chance, []
     if chance.random() < 0.4:
         script.say(f"bytes{spaced(sheet_bytes(sheet), '02x')}")
         script.say("read")
-        lines = []
-    else:
+    if script.memory.sheet() != sheet:
         lines = set_lines(sheet)
     if chance.random() < 0.7:
         lines += past_lines(chance, sheet)
@@ -198,7 +198,7 @@ def put_sheet(script, sheet):
     for line in lines:
         script.say(line)
     script.say("show sheet")
-    if refuse_sheet(sheet) == 0 and script.memory.sheet() != sheet:
+    if script.memory.sheet() != sheet:
         sys.exit(f"the sheet in memory is not {sheet}")
 
 
@@ -533,6 +533,11 @@ def make_script():
         add_edge(script, eighth_powers(energy), "just below 2^63, and 2^63")
     for horizon in 3, 4, 200:
         add_edge(script, longest_sheet(horizon), "all places for speeds and jobs")
+    for line in "set speeds 10", f"set speeds {NUMBER}", "set jobs 33", f"set jobs {NUMBER}":
+        script.say("# every entry is right, and a count is more than there are places")
+        put_sheet(script, longest_sheet(3))
+        script.say(line)
+        call_all(script, longest_sheet(3))
     for bound, top in (5, 5), (6, 3), (4, 8), (5, 6), (6, 4), (6, 8):
         add_edge(script, plain(bound, top), "the most queues, and more")
     script.say("# a plan of 53,820 queues")
@@ -555,17 +560,17 @@ def refuse_narrow(counts):
 
 
 def answer_lines(script):
-    """(script line, answer) for each line of the answers."""
-    for line, given in zip(script.lines, script.answers):
+    """(script line by number and words, answer) for each line of the answers."""
+    for number, (line, given) in enumerate(zip(script.lines, script.answers), 1):
         for answered in given.splitlines():
-            yield line, answered
+            yield f"script line {number}, `{line}`", answered
 
 
 def show(line, expected, given):
     def shown(text):
         return "nothing" if text is None else text.decode(errors="backslashreplace")
 
-    print(f"script line `{line}`\nexpected: {shown(expected)}\ngiven:    {shown(given)}")
+    print(f"{line}\nexpected: {shown(expected)}\ngiven:    {shown(given)}")
 
 
 def differing(script, output):
@@ -575,7 +580,7 @@ def differing(script, output):
         given.pop()
     expected = list(answer_lines(script))
     for place in range(max(len(expected), len(given))):
-        line, wanted = expected[place] if place < len(expected) else ("(no more)", None)
+        line, wanted = expected[place] if place < len(expected) else ("after the last line", None)
         got = given[place] if place < len(given) else None
         if wanted != got:
             yield line, wanted, got
