@@ -6,7 +6,7 @@ runs COMMAND, with its words, once for each input and one after the other. It mu
 standard output, byte for byte, what independent.py works out from document 01's text, and
 end with status 0. Sheet A is also handed over in two pieces. The inputs:
     named      sheet A, no bytes, more bytes than a sheet can have, the longest sheets, two at
-               number 9's limit, and every input that cases.py reads
+               number 9's limit, and every line `bytes` of the cases (crates/calls/stdin)
     sheets     every file of the folder `sheets` beside `tests`, but for those ending in .md
     accepted   150 random sheets that the program's lent memory has room for: speeds with
                gaps, energies in any order and often equal, T from 1 to the longest there is
@@ -26,7 +26,6 @@ from dataclasses import replace
 from pathlib import Path
 
 sys.dont_write_bytecode = True  # no folder of compiled files beside the tests
-from cases import READ, READ_LAST
 from independent import (
     PROGRAM_SHEET_BYTES, PROGRAM_VALUES, SHEET_A, Sheet, count_queues, memory_fields,
     number_bytes, program, refuse_sheet, sheet_bytes,
@@ -222,18 +221,29 @@ def eighth_powers(energy):
     return Sheet(1, ((0, 0), (1, energy)), 16, ((8, 0, 1),))
 
 
+def case_inputs():
+    """The bytes of every line `bytes` of the script that is the cases of document 01."""
+    script = Path(__file__).resolve().parent.parent / "crates" / "calls" / "stdin"
+    lines = [line.split(" ", 1) for line in script.read_text().splitlines()]
+    inputs = [bytes.fromhex("".join(words[1:])) for words in lines if words[0] == "bytes"]
+    if not inputs:
+        sys.exit(f"there is no line `bytes` in {script}; its inputs belong to these")
+    return inputs
+
+
 def named_inputs():
     whole = sheet_bytes(SHEET_A)
     return [
         whole,
         b"",
         b"\x80" * PROGRAM_SHEET_BYTES,
+        b"\x80" * 1_000_000,
         whole.ljust(600, b"\0"),
         sheet_bytes(longest_sheet(3)),  # 200 bytes, the longest that 9 lets pass
         sheet_bytes(longest_sheet(200)),  # 201 bytes, the longest that 4 to 8 let pass
         sheet_bytes(eighth_powers(2_047)),  # below 2^63, by one part in 2,048
         sheet_bytes(eighth_powers(2_048)),  # 16 times 2,048 times 8 to the power 16 is 2^63
-        *(bytes.fromhex(text) for _, text in READ + READ_LAST),
+        *case_inputs(),
     ]
 
 
@@ -276,7 +286,7 @@ def answer(command, data):
 
 def answer_to_pieces(command, first, second):
     """The same where the input comes in two pieces: short reads "are repeated until the
-    buffer is full or the input ends" (open point 8)."""
+    buffer is full or the input ends" (decision 8)."""
     with subprocess.Popen(command, stdin=subprocess.PIPE, stdout=subprocess.PIPE) as running:
         running.stdin.write(first)
         running.stdin.flush()

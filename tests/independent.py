@@ -1,34 +1,22 @@
 """An independent implementation of document 01: reading, refusing, planning and listing.
 
-It was written from the text of document 01 and of the open points decided beside it,
-without looking at the proved code, so that the two can be compared: where they differ,
-one has misread the page. It is plain rather than fast: exact integers, queues listed
-one by one, backward induction as on paper. Quotation marks hold 01's own words.
+It was written from the text of document 01, by someone who had not seen the proved code, so
+that the two can be compared: where they differ, one has misread the page. What 01 leaves
+open was decided for both: decisions 1 to 18 of docs/DECISIONS.md are shared with the proved
+code, so that a misreading in one of those would be in both and no comparison would tell. It
+is plain rather than fast: exact integers, queues listed one by one, backward induction as on
+paper. Quotation marks hold 01's own words.
 
-    python3 tests/independent.py FILE...
-
-prints a line for each file of sheet bytes, `NAME: number R queues N least L values V
-plan P`. R is the number of the read if that is refused, else the planner's 0 or 12; N
-and L are what the planner reports; V and P are the checksums (see `checksum`) of all
-(T+1)*N values and all T*N plan bytes. A refused sheet has 0 everywhere but in R. NAME is
-the file as it was named. Nothing is lent for this line, so there is no number 11 in it.
-
-    python3 tests/independent.py --listing [FILE...]
+    python3 tests/independent.py [FILE...]
 
 prints what 01's planning program writes for the bytes of each file or, where none is named,
-of standard input (see `program`). There memory is lent, and number 11 can be met.
-
-The sheets of crates/walk_plans/data, each what it is for:
-    sheet_a  document 01's own: D 2, speeds 0 to 2, 2 jobs, T 2, 12 queues
-    wide     D 5, speeds 0 to 5, 8 jobs, T 12: 62,832 queues, close to the limit of number 9
-    long     D 6, speeds 0 to 2, 2 jobs, T 40: 7,752 queues, energies of one, two and three bytes
-    gaps     D 3, speeds 0, 3, 5, 8, the faster the cheaper, 24 jobs, T 8: 1,785 queues, number 12
-             with values in the later rows
-    mixed    D 4, speeds 0, 1, 3, 5, 8, some at equal energy, 24 jobs, T 10: 29,799 queues
+of standard input (see `program`). stepping.py has the stepper, and calls.py makes any call, by
+a script; test_independent.py holds this and the stepper against 01's cases and definitions.
 """
 
 import sys
 from dataclasses import dataclass
+from functools import lru_cache
 from itertools import islice
 from pathlib import Path
 
@@ -154,9 +142,7 @@ def refuse_too_large(sheet):
     greatest = max(1, *(energy for _, energy in sheet.speeds))
     scaled = sheet.horizon * greatest * sheet.weight_sum() ** sheet.horizon
     within(scaled, 0, 2**63 - 1, 9)
-    # One queue too many settles "N above 65,535"; the others need not be made.
-    queues = bearable_queues(sheet.bound, sheet.largest_speed())
-    within(sum(1 for _ in islice(queues, MOST_QUEUES + 1)), 0, MOST_QUEUES, 10)
+    within(count_queues(sheet), 0, MOST_QUEUES, 10)
 
 
 def read_sheet(data):
@@ -193,9 +179,16 @@ def bearable_queues(bound, largest_speed, queue=()):
         yield from bearable_queues(bound, largest_speed, (*queue, work))
 
 
+@lru_cache(maxsize=None)
+def count_bearable(bound, largest_speed):
+    """How many bearable queues there are. One too many settles "N above 65,535"; the others
+    need not be made."""
+    return sum(1 for _ in islice(bearable_queues(bound, largest_speed), MOST_QUEUES + 1))
+
+
 def count_queues(sheet):
-    """N."""
-    return sum(1 for _ in bearable_queues(sheet.bound, sheet.largest_speed()))
+    """N, where it is not above 65,535."""
+    return count_bearable(sheet.bound, sheet.largest_speed())
 
 
 def run_slot(queue, speed):
@@ -252,9 +245,11 @@ def plan_row(sheet, slot, choices_of_queues, numbers, next_values):
     return values, speeds
 
 
+@lru_cache(maxsize=64)
 def plan_sheet(sheet):
     """(number, N, least energy, values, plan), the last two for every slot and every
-    bearable queue, also those that "can't be reached from empty"."""
+    bearable queue, also those that "can't be reached from empty". It is kept, and whoever
+    asks again gets the same lists: they are to be looked at alone."""
     number = refuse_sheet(sheet)
     if number != 0:
         return number, 0, 0, [], []
@@ -281,7 +276,7 @@ def plan_of(sheet):
 
 def refuse_lent_plan(sheet, plan):
     """The number of a sheet with the plan bytes lent for it: "4 to 10, 11". A plan longer
-    than T times N bytes "is fine in every call" (open point 3)."""
+    than T times N bytes "is fine in every call" (decision 3)."""
     number = refuse_sheet(sheet)
     if number == 0 and len(plan) < sheet.horizon * count_queues(sheet):
         return 11
@@ -305,8 +300,8 @@ def plan_lent(sheet, values, plan):
 
 def row(sheet, plan, slot):
     """The row call, which answers "the part of the caller's plan that belongs to slot t, and
-    an empty part on any refusal or when t is not below T", whatever the bytes are (open
-    point 4)."""
+    an empty part on any refusal or when t is not below T", whatever the bytes are (decision
+    4)."""
     if refuse_lent_plan(sheet, plan) != 0 or slot >= sheet.horizon:
         return []
     queue_count = count_queues(sheet)
@@ -325,11 +320,34 @@ def listing(sheet, least, plan):
     return "".join(lines).encode()
 
 
+def fill(lent, data):
+    """(number, length) of a call that is not refused and answers in lent bytes: 11 for "a lent
+    buffer shorter than needed", which "touches no lent place and reports zero for length";
+    else places "past the writer's length" are untouched."""
+    if len(lent) < len(data):
+        return 11, 0
+    lent[: len(data)] = data
+    return 0, len(data)
+
+
+def write_sheet(sheet, lent):
+    """(number, length). "Planner, writer and row: 4 to 10, 11"."""
+    number = refuse_sheet(sheet)
+    return (number, 0) if number else fill(lent, sheet_bytes(sheet))
+
+
+def write_listing(sheet, least, plan, lent):
+    """(number, length). 01 has no such call by itself: it is refused as the writer is, and
+    the plan is lent to it as it is to row."""
+    number = refuse_lent_plan(sheet, plan)
+    return (number, 0) if number else fill(lent, listing(sheet, least, plan))
+
+
 def program(data):
     """What the planning program writes for these bytes of standard input. It "reads up to
     512 sheet bytes from standard input, lends 8,000 values and 60,000 plan bytes, and writes
     either `refused n`, for any number but 0, or the listing"; 12 is a refusal here too, and
-    a line feed ends that line as well (open point 8)."""
+    a line feed ends that line as well (decision 8)."""
     number, sheet = read_sheet(data[:PROGRAM_SHEET_BYTES])
     if number == 0:
         plan = [0] * PROGRAM_PLAN_BYTES
@@ -347,23 +365,10 @@ def checksum(numbers):
     return total
 
 
-def report(path):
-    """The line for a file of sheet bytes."""
-    read, sheet = read_sheet(path.read_bytes())
-    # The all-zero sheet of a refused read is refused by the planner in turn.
-    planned, queue_count, least, values, plan = plan_sheet(sheet)
-    return (f"{path}: number {read or planned} queues {queue_count} least {least}"
-            f" values {checksum(values)} plan {checksum(plan)}")
-
-
-def main(words):
-    if words[:1] == ["--listing"]:
-        named = [Path(name).read_bytes() for name in words[1:]]
-        for data in named or [sys.stdin.buffer.read()]:
-            sys.stdout.buffer.write(program(data))
-    else:
-        for name in words:
-            print(report(Path(name)))
+def main(names):
+    named = [Path(name).read_bytes() for name in names]
+    for data in named or [sys.stdin.buffer.read()]:
+        sys.stdout.buffer.write(program(data))
 
 
 if __name__ == "__main__":

@@ -1,39 +1,17 @@
 """An independent implementation of document 01's stepper: start, speed and advance.
 
-It stands on independent.py and, like it, was written from the text of document 01 and of
-the open points decided beside it, without looking at the proved code, so that the two
-can be compared: where they differ, one has misread the page. Quotation marks hold 01's
-own words. Number 11 is here that the plan bytes are fewer than T times N.
-
-    python3 tests/stepping.py FILE
-
-reads FILE as the bytes of sheet A (the ranges are made for it alone) and prints what a
-program of the project prints too. In every line N is a call's number, V the speed that it
-answered, and STATE the state that it gave, `queue A B C D E F slot S energy G`.
-Part 1, the sheet's own plan, for queues that can start and queues that cannot:
-    start W1 W2: N, STATE    start of this queue; then, where N is 0, for two entries
-    entries I J              by their places on the sheet, for I, for J and, by then at the
-    speed: N, V              horizon, for entry 0, these two lines; the state is the one
-    advance: N, STATE        that start or the last advance gave
-Part 2, damaged plans, for every bearable queue at slot 0 with energy 0:
-    plan of B                all plan bytes are B
-    queue W1 W2 speed: N, V
-    arrival C D advance: N, STATE    for three sizes and deadlines, one on no entry
-Part 3, the sheet's own plan, states good and bad of queue (0, 2):
-    slot S energy G speed: N, V
-    unused speed: N, V       an unused position is not zero
-    short speed: N, V        the plan is one byte too short
+It stands on independent.py and is independent of the proved code as that is, and no more:
+written from 01 by someone who had not seen the code, with the decisions 1 to 18 of
+docs/DECISIONS.md shared. Quotation marks hold 01's own words. Number 11 is here that the plan
+bytes are fewer than T times N.
 """
 
 import sys
 from dataclasses import dataclass
-from itertools import product
-from pathlib import Path
+from functools import lru_cache
 
 sys.dont_write_bytecode = True  # no folder of compiled files beside the tests
-from independent import (
-    Refused, add_job, bearable_queues, plan_of, read_sheet, refuse_sheet, run_slot, within,
-)
+from independent import Refused, add_job, bearable_queues, refuse_sheet, run_slot, within
 
 POSITIONS = 6  # of a queue in memory, whatever D is
 MOST_ENERGY = 4_294_967_295
@@ -54,14 +32,20 @@ def at(totals, slot=0, energy=0):
     return State((*totals, *[0] * (POSITIONS - len(totals))), slot, energy)
 
 
+@lru_cache(maxsize=None)
+def queue_numbers(bound, largest_speed):
+    """The number of each bearable queue, in a dictionary by its D totals."""
+    queues = bearable_queues(bound, largest_speed)
+    return {queue: place for place, queue in enumerate(queues)}
+
+
 def accepted_queues(sheet):
-    """The number of each bearable queue, in a dictionary by its D totals, once the sheet
-    has passed: it "is tested 4 to 10 in that field order by every call"."""
+    """The queues of a sheet by number, once it has passed: it "is tested 4 to 10 in that
+    field order by every call"."""
     number = refuse_sheet(sheet)
     if number != 0:
         raise Refused(number)
-    queues = bearable_queues(sheet.bound, sheet.largest_speed())
-    return {queue: place for place, queue in enumerate(queues)}
+    return queue_numbers(sheet.bound, sheet.largest_speed())
 
 
 def refuse_queue(sheet, numbers, queue):
@@ -73,7 +57,7 @@ def refuse_queue(sheet, numbers, queue):
 
 def refuse_state(sheet, numbers, state):
     """All of 13: the queue, "the slot is above T, or the energy is above the slot number
-    times the greatest energy", which is 0 where all are 0 (open point 2)."""
+    times the greatest energy", which is 0 where all are 0 (decision 2)."""
     refuse_queue(sheet, numbers, state.queue)
     within(state.slot, 0, sheet.horizon, 13)
     greatest = max(energy for _, energy in sheet.speeds)
@@ -82,7 +66,7 @@ def refuse_state(sheet, numbers, state):
 
 def planned_speed(sheet, numbers, plan, state):
     """The plan byte of this state, or the first of its refusals 11, 13, 14, 16. The byte
-    need not be an admissible speed (open point 11)."""
+    need not be an admissible speed (decision 11)."""
     if len(plan) < sheet.horizon * len(numbers):
         raise Refused(11)
     refuse_state(sheet, numbers, state)
@@ -111,8 +95,8 @@ def next_state(sheet, plan, state, size, deadline):
 
 def start(sheet, state):
     """(number, state). "Start takes a sheet and a queue and gives slot 0, energy 0"; the
-    queue is the state's, and the slot and energy that it had "are not looked at" (open
-    point 10). "Start: 4 to 10, 13." "A refused start gives an all-zero state"."""
+    queue is the state's, and the slot and energy that it had "are not looked at" (decision
+    10). "Start: 4 to 10, 13." "A refused start gives an all-zero state"."""
     try:
         refuse_queue(sheet, accepted_queues(sheet), state.queue)
     except Refused as refusal:
@@ -136,69 +120,3 @@ def advance(sheet, plan, state, size, deadline):
         return 0, next_state(sheet, plan, state, size, deadline)
     except Refused as refusal:
         return refusal.number, state
-
-
-def given(number, state):
-    """What start or advance answered, as it is printed."""
-    totals = " ".join(str(total) for total in state.queue)
-    return f"{number}, queue {totals} slot {state.slot} energy {state.energy}"
-
-
-def print_speed(words, sheet, plan, state):
-    number, answer = speed(sheet, plan, state)
-    print(f"{words}speed: {number}, {answer}")
-
-
-def print_runs(sheet, plan):
-    """Part 1."""
-    for w1, w2 in product(range(4), range(6)):
-        # Start does not look at this slot and energy.
-        number, begin = start(sheet, at((w1, w2), 9, 9))
-        print(f"start {w1} {w2}: {given(number, begin)}")
-        if number != 0:
-            continue
-        for first, second in product(range(2), range(2)):
-            print(f"entries {first} {second}")
-            state = begin
-            for entry in first, second, 0:  # the last of them at the horizon
-                print_speed("", sheet, plan, state)
-                _, size, deadline = sheet.jobs[entry]
-                number, state = advance(sheet, plan, state, size, deadline)
-                print(f"advance: {given(number, state)}")
-
-
-def print_damaged(sheet, plan_length):
-    """Part 2."""
-    for byte in 0, 1, 2, 3, 255:
-        print(f"plan of {byte}")
-        plan = [byte] * plan_length
-        for w1 in range(3):
-            for w2 in range(w1, 5):
-                state = at((w1, w2))
-                print_speed(f"queue {w1} {w2} ", sheet, plan, state)
-                for size, deadline in (0, 1), (2, 2), (1, 1):
-                    answer = given(*advance(sheet, plan, state, size, deadline))
-                    print(f"arrival {size} {deadline} advance: {answer}")
-
-
-def print_states(sheet, plan):
-    """Part 3."""
-    for slot, energy in product(range(4), range(10)):
-        state = at((0, 2), slot, energy)
-        print_speed(f"slot {slot} energy {energy} ", sheet, plan, state)
-    print_speed("unused ", sheet, plan, at((0, 2, 1)))
-    print_speed("short ", sheet, plan[:-1], at((0, 2)))
-
-
-def main(name):
-    number, sheet = read_sheet(Path(name).read_bytes())
-    if number != 0:
-        sys.exit(f"{name}: refused {number}")
-    plan = plan_of(sheet)
-    print_runs(sheet, plan)
-    print_damaged(sheet, len(plan))
-    print_states(sheet, plan)
-
-
-if __name__ == "__main__":
-    main(sys.argv[1])
