@@ -64,7 +64,7 @@ fn print_sheet(sheet: Sheet) {
 
 // Reads bytes: the number and the sheet.
 fn read_case(name: &[u8], bytes: &[u8]) {
-    let answer = codec::read(bytes);
+    let answer = reader::read(bytes);
     print_words(name);
     print_words(b": read");
     print_number(answer.number);
@@ -76,7 +76,7 @@ fn read_case(name: &[u8], bytes: &[u8]) {
 
 // Writes a sheet: the number, the length, and all lent bytes afterwards.
 fn write_into(name: &[u8], sheet: Sheet, buffer: &mut [u8]) {
-    let answer = codec::write(sheet, buffer);
+    let answer = writer::write(sheet, buffer);
     print_words(name);
     print_words(b": written");
     print_number(answer.number);

@@ -39,7 +39,7 @@ fn print_plan(sheet: Sheet) {
 fn main() {
     let mut bytes = [0u8; 512];
     let length = io::read_full(STDIN_FILENO, &mut bytes);
-    let read = codec::read(&bytes[..length]);
+    let read = reader::read(&bytes[..length]);
     if read.number != 0 {
         print_refused(read.number);
         return;

@@ -82,12 +82,12 @@ fn print_line(number: u32, queues: u32, least: u64, values: u64, plan: u64) {
 }
 
 // The sheet of a file; a file that is not there is read as one with no bytes.
-fn sheet_in(path: &[u8]) -> codec::ReadSheet {
+fn sheet_in(path: &[u8]) -> reader::ReadSheet {
     let mut bytes = [0u8; 512];
     let fd = os::open_read(path);
     let length = io::read_full(fd, &mut bytes);
     libc::close(fd);
-    codec::read(&bytes[..length])
+    reader::read(&bytes[..length])
 }
 
 fn plan_file(path: &[u8], values: &mut [u64], plan: &mut [u8]) {

@@ -208,7 +208,7 @@ fn walk(sheet: Sheet) {
 fn main() {
     let mut bytes = [0u8; 512];
     let length = io::read_full(STDIN_FILENO, &mut bytes);
-    let read = codec::read(&bytes[..length]);
+    let read = reader::read(&bytes[..length]);
     if read.number == 0 {
         let sheet = read.sheet;
         walk(sheet);
