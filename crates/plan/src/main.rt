@@ -7,7 +7,7 @@ use model::Sheet;
 // Writes the one line of a refusal, all at once.
 fn print_refused(number: u32) {
     let mut line = [0u8; 29];
-    let length = listing::put_refused(&mut line, number);
+    let length = decimals::put_refused(&mut line, number);
     io::write_all(STDOUT_FILENO, &line[..length]);
 }
 
