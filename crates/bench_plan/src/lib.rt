@@ -6,7 +6,7 @@ ghost use Rattle.bench_plan.specs.Planned.{IsPlanned};
 pub extern "C" fn bench_plan(bytes: &[u8], values: &mut [u64], plan: &mut [u8]) -> u32
     ensures { λ r. ⌜ IsPlanned (now (bytes .entry)) (now (values .entry)) (now (plan .entry)) (now (values .exit)) (now (plan .exit)) r ⌝ }
 {
-    let read = codec::read(bytes);
+    let read = reader::read(bytes);
     if read.number != 0 {
         return read.number;
     }

@@ -30,8 +30,8 @@ use Rattle.model.proofs.RoundTrip.{write-number}
 use Rattle.model.proofs.Stepper.{start-number, speed-number, advance-number, speed-accepted, byte-on-sheet, moved-by}
 use Rattle.model.proofs.Stepping.{energy-small}
 use Rattle.model.proofs.Written.{wrote-refused}
-use Rattle.codec.specs.declared.reader.ReadSheet.{ReadSheet}
-use Rattle.codec.specs.declared.writer.Written.{Written}
+use Rattle.reader.specs.declared.ReadSheet.{ReadSheet}
+use Rattle.writer.specs.declared.Written.{Written}
 use Rattle.listing.specs.declared.call.Listed.{Listed}
 use Rattle.planner.specs.declared.calls.PlanAnswer.{PlanAnswer}
 use Rattle.stepper.specs.Calls.{stateOf}

@@ -7,9 +7,10 @@ use denote.Ref.{now}
 use Rattle.model.specs.Bytes.{write}
 use Rattle.model.specs.Counted.{Counted, counted}
 use Rattle.model.specs.declared.Sheet.{Sheet}
-use Rattle.codec.specs.Calls.{IsRead, IsWritten}
-use Rattle.codec.specs.declared.reader.ReadSheet.{ReadSheet}
-use Rattle.codec.specs.declared.writer.Written.{Written}
+use Rattle.reader.specs.Calls.{IsRead}
+use Rattle.writer.specs.Calls.{IsWritten}
+use Rattle.reader.specs.declared.ReadSheet.{ReadSheet}
+use Rattle.writer.specs.declared.Written.{Written}
 use Rattle.model.specs.Plan.{valueIn, Leaves, row}
 use Rattle.model.specs.Plan as model-plan
 use Rattle.model.proofs.Leaves.{leaves-unique}

@@ -15,8 +15,8 @@ use Rattle.model.specs.Reading.{read}
 use Rattle.model.specs.Refusal.{sheetRefusal}
 use Rattle.model.specs.Tests.{padded}
 use Rattle.model.specs.declared.Sheet.{Sheet}
-use Rattle.codec.specs.declared.reader.ReadSheet.{ReadSheet}
-use Rattle.codec.specs.declared.writer.Written.{Written}
+use Rattle.reader.specs.declared.ReadSheet.{ReadSheet}
+use Rattle.writer.specs.declared.Written.{Written}
 use Rattle.demands.specs.Calls.{HasPlaces, Reads, Writes}
 use Rattle.demands.proofs.Determined.{read-is, write-is}
 

@@ -9,12 +9,12 @@ use denote.Ref.{now}
 use lib.ListN.{length}
 use denote.Triple.Clauses.{AtExit}
 use Rattle.model.specs.declared.Sheet.{Sheet}
-use Rattle.codec.specs.declared.reader.ReadSheet.{ReadSheet}
-use Rattle.codec.specs.declared.writer.Written.{Written}
-use Rattle.codec.proofs.read.Kinds as read-kinds
-use Rattle.codec.proofs.read.Reads as read
-use Rattle.codec.proofs.write.Kinds as write-kinds
-use Rattle.codec.proofs.write.Reads as write
+use Rattle.reader.specs.declared.ReadSheet.{ReadSheet}
+use Rattle.writer.specs.declared.Written.{Written}
+use Rattle.reader.proofs.read.Kinds as read-kinds
+use Rattle.reader.proofs.read.Reads as read
+use Rattle.writer.proofs.write.Kinds as write-kinds
+use Rattle.writer.proofs.write.Reads as write
 use Rattle.planner.specs.declared.calls.PlanAnswer.{PlanAnswer}
 use Rattle.planner.proofs.plan.Kinds as plan-kinds
 use Rattle.planner.proofs.plan.Reads as plan

@@ -1,5 +1,3 @@
-pub mod Digits
-pub mod Heads
 pub mod Rows
 pub mod Outcomes
 pub mod Within

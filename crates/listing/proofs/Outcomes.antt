@@ -13,7 +13,7 @@ use Rattle.model.specs.Refusal.{N}
 use Rattle.buffers.proofs.Laid.{laid-written}
 use Rattle.buffers.specs.Laid.{Laid}
 use Rattle.listing.specs.Calls.{IsListed}
-use Rattle.listing.specs.Lines.{wholeListing}
+use Rattle.listing.specs.Whole.{wholeListing}
 
 module _ (s : Counted) (least : ℕ) (plan : List ℕ) where
   -- a refusal touches nothing and has the length 0

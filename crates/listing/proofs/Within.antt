@@ -17,10 +17,10 @@ use Rattle.model.specs.Refusal.{sheetRefusal, N}
 use Rattle.model.proofs.Refusal.{accepted, power-fits}
 use Rattle.model.proofs.Tests.{and-right, check-zero, then-right, turn-times}
 use Rattle.listing.specs.Calls.{IsListed}
-use Rattle.listing.specs.Lines.{bytesFrom, lineAt}
-use Rattle.listing.proofs.Digits.{digits-upto}
-use Rattle.listing.proofs.Heads.{header-length}
-use Rattle.listing.proofs.Rows.{line-length}
+use Rattle.lines.specs.Lines.{bytesFrom, lineAt}
+use Rattle.decimals.proofs.Digits.{digits-upto}
+use Rattle.lines.proofs.Heads.{header-length}
+use Rattle.lines.proofs.Rows.{line-length}
 
 -- what is not refused fits
 pub listing-fits : (s : Counted) (least : ℕ) (plan : List ℕ) (room : ℕ) → listRefusal s least plan room ≡ 0 → length (listing s least plan) ≤ room

@@ -1,10 +1,10 @@
 // The call: the listing of a planned sheet. How long it is is worked out first, so that a refused call touches nothing.
-use crate::header::Header;
-use crate::header::header_length;
-use crate::header::put_header;
-use crate::header::scale_of;
-use crate::lines::lines_length;
-use crate::lines::put_lines;
+use lines::Header;
+use lines::header_length;
+use lines::lines_length;
+use lines::put_header;
+use lines::put_lines;
+use lines::scale_of;
 use model::Sheet;
 use queues::table;
 use sheets::queues_of;
@@ -15,7 +15,8 @@ ghost use lib.ListN.{length};
 ghost use Rattle.model.specs.Counted.{counted};
 ghost use Rattle.buffers.specs.Laid.{Laid};
 ghost use Rattle.listing.specs.Calls.{IsListed};
-ghost use Rattle.listing.specs.Lines.{HasRows, wholeListing};
+ghost use Rattle.listing.specs.Whole.{wholeListing};
+ghost use Rattle.lines.specs.Lines.{HasRows};
 
 // The number 0 with how many bytes were written, or a refusal's number with 0.
 pub struct Listed {

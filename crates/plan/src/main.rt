@@ -7,7 +7,7 @@ use model::Sheet;
 // Writes the one line of a refusal, all at once.
 fn print_refused(number: u32) {
     let mut line = [0u8; 29];
-    let length = listing::put_refused(&mut line, number);
+    let length = decimals::put_refused(&mut line, number);
     io::write_all(STDOUT_FILENO, &line[..length]);
 }
 
@@ -39,7 +39,7 @@ fn print_plan(sheet: Sheet) {
 fn main() {
     let mut bytes = [0u8; 512];
     let length = io::read_full(STDIN_FILENO, &mut bytes);
-    let read = codec::read(&bytes[..length]);
+    let read = reader::read(&bytes[..length]);
     if read.number != 0 {
         print_refused(read.number);
         return;

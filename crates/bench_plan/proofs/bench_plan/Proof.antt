@@ -7,7 +7,7 @@ use Rattle.model.specs.Counted.{counted}
 use Rattle.model.specs.Plan.{PlanAnswer, Leaves, valueIn}
 use Rattle.model.specs.Reading.{read}
 use Rattle.model.specs.declared.Sheet.{Sheet}
-use Rattle.codec.specs.Calls.{IsRead}
+use Rattle.reader.specs.Calls.{IsRead}
 use Rattle.bench_plan.specs.Planned.{LeavesRead, IsPlanned}
 use Rattle.bench_plan.proofs.bench_plan.Statement.{statement}
 use Rattle.bench_plan.proofs.bench_plan.Tie as tie

@@ -8,7 +8,7 @@ use Rattle.model.proofs.Rooms.{row-accepted}
 use Rattle.model.specs.Counted.{Counted, counted}
 use Rattle.model.specs.Plan.{rowRefusal}
 use Rattle.model.specs.Refusal.{sheetRefusal}
-use Rattle.listing.specs.Lines.{HasRows}
+use Rattle.lines.specs.Lines.{HasRows}
 use Rattle.listing.proofs.Outcomes.{listing-refused, listing-short, listing-done}
 use Rattle.listing.proofs.Rows.{rows-accepted}
 use Rattle.listing.proofs.call.list.Statement.{statement}

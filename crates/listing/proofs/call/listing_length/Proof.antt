@@ -3,7 +3,7 @@ use native.Mathlib.Omega.{arith}
 use borrow.Author.Needs.{needs}
 use lib.ListN.{length-append}
 use Rattle.model.specs.Listing.{header}
-use Rattle.listing.specs.Lines.{linesTo}
+use Rattle.lines.specs.Lines.{linesTo}
 use Rattle.listing.proofs.call.listing_length.Statement.{statement}
 use Rattle.listing.proofs.call.listing_length.Tie as tie
 

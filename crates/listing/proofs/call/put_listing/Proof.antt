@@ -6,7 +6,7 @@ use borrow.Author.Needs.{needs}
 use lib.ListN.{length}
 use Rattle.model.specs.Listing.{header}
 use Rattle.buffers.proofs.Laid.{laid-then, room-first, room-then}
-use Rattle.listing.specs.Lines.{linesTo}
+use Rattle.lines.specs.Lines.{linesTo}
 use Rattle.listing.proofs.call.put_listing.Statement.{statement}
 use Rattle.listing.proofs.call.put_listing.Tie as tie
 

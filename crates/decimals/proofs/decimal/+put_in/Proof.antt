@@ -1,0 +1,101 @@
+-- The proof of the cycle of calls {put_in}. The measure is how many digits the number may have. It stores a single digit, or, by its call
+-- of itself, those of the number's tenth, and then the last digit behind them.
+use Prim.Native.Nat.{ℕ, _<_}
+use native.Mathlib.Omega.{arith}
+use borrow.Fn.Kinds.{In}
+use borrow.Fn.PlainCycle.{Measures, is, falls, and}
+use lib.ListN.{length-set}
+use Rattle.decimals.proofs.Digits.{last-inside, last-laid, others-asked, more-inside, more-laid}
+use Rattle.decimals.proofs.decimal.put_in.Reads as put-in
+use Rattle.decimals.proofs.decimal.put_in.Kinds as put-in-kinds
+use Rattle.decimals.proofs.decimal.+put_in.Lts-put_in as put-in-lts
+use Rattle.decimals.proofs.decimal.+put_in.{statement}
+use Rattle.decimals.proofs.decimal.+put_in.Tie.{close}
+
+abbrev μ-put-in : Measures 1 put-in-kinds.ps ℕ
+μ-put-in κs a = a .0
+
+abbrev put-in-at : ℕ → In 1 put-in-kinds.ps
+put-in-at t = and 1 put-in-kinds.ps (is 1 put-in-kinds.ps μ-put-in t) put-in.Pre
+
+abbrev put-in-below : ℕ → In 1 put-in-kinds.ps
+put-in-below t = and 1 put-in-kinds.ps (falls 1 put-in-kinds.ps _<_ μ-put-in t) put-in.Pre
+
+put-in-add-buffer : (t : ℕ) → put-in-lts.Need-add-buffer (put-in-below t, put-in.Post) (put-in-at t) put-in.Post
+put-in-add-buffer t c = omega arith
+
+put-in-cast-buffer : (t : ℕ) → put-in-lts.Need-cast-buffer (put-in-below t, put-in.Post) (put-in-at t) put-in.Post
+put-in-cast-buffer t c = omega arith
+
+put-in-slice-write-buffer : (t : ℕ) → put-in-lts.Need-slice-write-buffer (put-in-below t, put-in.Post) (put-in-at t) put-in.Post
+put-in-slice-write-buffer t c =
+    let start = c .before .before in
+    last-inside (start .args .at) (start .args .buffer .now) (start .pre .1) (c .if1 .taken)
+
+put-in-add-result : (t : ℕ) → put-in-lts.Need-add-result (put-in-below t, put-in.Post) (put-in-at t) put-in.Post
+put-in-add-result t c = omega (arith, put-in-slice-write-buffer t c)
+
+put-in-same-length : (t : ℕ) → put-in-lts.Need-same-length (put-in-below t, put-in.Post) (put-in-at t) put-in.Post
+put-in-same-length t c = simp length-set
+
+put-in-returns : (t : ℕ) → put-in-lts.Need-returns (put-in-below t, put-in.Post) (put-in-at t) put-in.Post
+put-in-returns t c =
+    let start = c .before .before in
+    last-laid (start .args .at) (start .args .buffer .now) (start .pre .1) (c .if1 .taken)
+
+put-in-sub-put-in : (t : ℕ) → put-in-lts.Need-sub-put-in (put-in-below t, put-in.Post) (put-in-at t) put-in.Post
+put-in-sub-put-in t c = c .before .before .pre .1 .0
+
+put-in-put-in-requires : (t : ℕ) → put-in-lts.Need-put-in-requires (put-in-below t, put-in.Post) (put-in-at t) put-in.Post
+put-in-put-in-requires t c κs =
+    let start = c .before .before .before in (
+      omega (arith, start .pre .0, start .pre .1 .0),
+      others-asked (start .args .at) (start .args .buffer .now) (start .pre .1) (c .before .if1 .left),
+    )
+
+put-in-add-buffer-2 : (t : ℕ) → put-in-lts.Need-add-buffer-2 (put-in-below t, put-in.Post) (put-in-at t) put-in.Post
+put-in-add-buffer-2 t c = omega arith
+
+put-in-cast-buffer-2 : (t : ℕ) → put-in-lts.Need-cast-buffer-2 (put-in-below t, put-in.Post) (put-in-at t) put-in.Post
+put-in-cast-buffer-2 t c = omega arith
+
+put-in-slice-write-buffer-2 : (t : ℕ) → put-in-lts.Need-slice-write-buffer-2 (put-in-below t, put-in.Post) (put-in-at t) put-in.Post
+put-in-slice-write-buffer-2 t c =
+    let start = c .before .before .before .before .before .before in
+    more-inside (start .args .at) (start .args .buffer .now) (start .pre .1) (c .before .before .before .before .if1 .left)
+    (c .before .before .put-in .ensures)
+
+put-in-add-result-2 : (t : ℕ) → put-in-lts.Need-add-result-2 (put-in-below t, put-in.Post) (put-in-at t) put-in.Post
+put-in-add-result-2 t c = omega (arith, put-in-slice-write-buffer-2 t c)
+
+put-in-same-length-2 : (t : ℕ) → put-in-lts.Need-same-length-2 (put-in-below t, put-in.Post) (put-in-at t) put-in.Post
+put-in-same-length-2 t c = simp length-set (c .before .before .put-in .kept .1 .0)
+
+put-in-returns-2 : (t : ℕ) → put-in-lts.Need-returns-2 (put-in-below t, put-in.Post) (put-in-at t) put-in.Post
+put-in-returns-2 t c =
+    let start = c .before .before .before .before .before .before in
+    more-laid (start .args .at) (start .args .buffer .now) (start .pre .1) (c .before .before .before .before .if1 .left)
+    (c .before .before .put-in .ensures)
+
+pub +put-in-spec : {M : Type 1} → statement M
++put-in-spec =
+    close
+    μ-put-in
+    λ t. put-in-lts.spec
+    (put-in-below t, put-in.Post)
+    (put-in-at t)
+    put-in.Post
+    (put-in-add-buffer t)
+    (put-in-cast-buffer t)
+    (put-in-slice-write-buffer t)
+    (put-in-add-result t)
+    (put-in-same-length t)
+    (put-in-returns t)
+    (put-in-sub-put-in t)
+    (put-in-put-in-requires t)
+    (put-in-add-buffer-2 t)
+    (put-in-cast-buffer-2 t)
+    (put-in-slice-write-buffer-2 t)
+    (put-in-add-result-2 t)
+    (put-in-same-length-2 t)
+    (put-in-returns-2 t)

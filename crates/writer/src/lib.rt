@@ -1,0 +1,179 @@
+// The writer: a sheet's bytes into a lent buffer. How long they are is worked out first, so that a refused write touches nothing. Its call
+// takes any sheet in memory and any buffer. What it refuses, it refuses with a number.
+use model::Job;
+use model::Sheet;
+use model::Speed;
+use queues::table;
+use sheets::sheet_refusal;
+ghost use mathlib.Core.Path.{_≡_};
+ghost use Prim.Native.Nat.{_+_, _^_, _≤_, _<_};
+ghost use lib.ListN.{length};
+ghost use Rattle.writer.specs.Calls.{IsWritten};
+ghost use Rattle.buffers.specs.Laid.{Laid};
+ghost use Rattle.writer.specs.Short.{SpeedShort, JobShort};
+ghost use Rattle.model.specs.Bytes.{codeIn, code, speedCode, jobCode, speedBytes, jobBytes, sheetBytes};
+ghost use Rattle.model.specs.Counted.{counted};
+ghost use Rattle.model.specs.Refusal.{fieldsRefusal};
+
+// The number 0 with how many bytes were written, or a refusal's number with 0.
+pub struct Written {
+    pub number: u32,
+    pub length: usize,
+}
+
+// How many bytes a number takes.
+fn code_length(x: u32) -> usize
+    ensures { λ r. ⌜ r ≡ length (code x) ⌝ }
+{
+    if x < 128 {
+        return 1;
+    }
+    if x < 16384 {
+        return 2;
+    }
+    3
+}
+
+// How many bytes the speeds take.
+fn speeds_length(sheet: Sheet) -> usize
+    requires { ⌜ fieldsRefusal (counted sheet) ≡ 0 ⌝ }
+    ensures { λ r. ⌜ r ≡ length (speedBytes (counted sheet) (sheet .«speed_count»)) ⌝ }
+{
+    let mut all = 0;
+    let mut place = 0;
+    while place < sheet.speed_count {
+        let one = sheet.speeds[place as usize];
+        all += code_length(one.speed) + code_length(one.energy);
+        place += 1;
+    }
+    all
+}
+
+// How many bytes the jobs take.
+fn jobs_length(sheet: Sheet) -> usize
+    requires { ⌜ fieldsRefusal (counted sheet) ≡ 0 ⌝ }
+    ensures { λ r. ⌜ r ≡ length (jobBytes (counted sheet) (sheet .«job_count»)) ⌝ }
+{
+    let mut all = 0;
+    let mut place = 0;
+    while place < sheet.job_count {
+        let one = sheet.jobs[place as usize];
+        all += code_length(one.weight) + code_length(one.size) + code_length(one.deadline);
+        place += 1;
+    }
+    all
+}
+
+// How many bytes the sheet takes.
+fn sheet_length(sheet: Sheet) -> usize
+    requires { ⌜ fieldsRefusal (counted sheet) ≡ 0 ⌝ }
+    ensures { λ r. ⌜ r ≡ length (sheetBytes (counted sheet)) ⌝ }
+{
+    let before = code_length(sheet.bound) + code_length(sheet.speed_count);
+    let speeds = speeds_length(sheet);
+    let between = code_length(sheet.horizon) + code_length(sheet.job_count);
+    let jobs = jobs_length(sheet);
+    before + speeds + between + jobs
+}
+
+// Writes a number of at most `most` bytes at a place; answers the next place.
+fn put_in(most: u32, buffer: &mut [u8], at: usize, x: u32) -> usize
+    requires { ⌜ (1 ≤ most) × (x < 128 ^ most) × (at + length (codeIn most x) ≤ length (now buffer)) ⌝ }
+    ensures { λ r. ⌜ Laid at (codeIn most x) (now (buffer .entry)) (now (buffer .exit)) r ⌝ }
+{
+    if x < 128 {
+        buffer[at] = x as u8;
+        return at + 1;
+    }
+    buffer[at] = (128 + x % 128) as u8;
+    put_in(most - 1, buffer, at + 1, x / 128)
+}
+
+// Writes a number.
+fn put(buffer: &mut [u8], at: usize, x: u32) -> usize
+    requires { ⌜ (x < 128 ^ 3) × (at + length (code x) ≤ length (now buffer)) ⌝ }
+    ensures { λ r. ⌜ Laid at (code x) (now (buffer .entry)) (now (buffer .exit)) r ⌝ }
+{
+    put_in(3, buffer, at, x)
+}
+
+// Writes a speed, then its energy.
+fn put_speed(buffer: &mut [u8], at: usize, one: Speed) -> usize
+    requires { ⌜ SpeedShort one × (at + length (speedCode one) ≤ length (now buffer)) ⌝ }
+    ensures { λ r. ⌜ Laid at (speedCode one) (now (buffer .entry)) (now (buffer .exit)) r ⌝ }
+{
+    let next = put(buffer, at, one.speed);
+    put(buffer, next, one.energy)
+}
+
+// Writes the speeds.
+fn put_speeds(buffer: &mut [u8], at: usize, sheet: Sheet) -> usize
+    requires { ⌜ (fieldsRefusal (counted sheet) ≡ 0) × (at + length (speedBytes (counted sheet) (sheet .«speed_count»)) ≤ length (now buffer)) ⌝ }
+    ensures { λ r. ⌜ Laid at (speedBytes (counted sheet) (sheet .«speed_count»)) (now (buffer .entry)) (now (buffer .exit)) r ⌝ }
+{
+    let mut next = at;
+    let mut place = 0;
+    while place < sheet.speed_count {
+        let one = sheet.speeds[place as usize];
+        next = put_speed(buffer, next, one);
+        place += 1;
+    }
+    next
+}
+
+// Writes a job: its weight, its size, its deadline.
+fn put_job(buffer: &mut [u8], at: usize, one: Job) -> usize
+    requires { ⌜ JobShort one × (at + length (jobCode one) ≤ length (now buffer)) ⌝ }
+    ensures { λ r. ⌜ Laid at (jobCode one) (now (buffer .entry)) (now (buffer .exit)) r ⌝ }
+{
+    let next = put(buffer, at, one.weight);
+    let after = put(buffer, next, one.size);
+    put(buffer, after, one.deadline)
+}
+
+// Writes the jobs.
+fn put_jobs(buffer: &mut [u8], at: usize, sheet: Sheet) -> usize
+    requires { ⌜ (fieldsRefusal (counted sheet) ≡ 0) × (at + length (jobBytes (counted sheet) (sheet .«job_count»)) ≤ length (now buffer)) ⌝ }
+    ensures { λ r. ⌜ Laid at (jobBytes (counted sheet) (sheet .«job_count»)) (now (buffer .entry)) (now (buffer .exit)) r ⌝ }
+{
+    let mut next = at;
+    let mut place = 0;
+    while place < sheet.job_count {
+        let one = sheet.jobs[place as usize];
+        next = put_job(buffer, next, one);
+        place += 1;
+    }
+    next
+}
+
+// Writes all the fields in order.
+fn put_sheet(buffer: &mut [u8], sheet: Sheet) -> usize
+    requires { ⌜ (fieldsRefusal (counted sheet) ≡ 0) × (length (sheetBytes (counted sheet)) ≤ length (now buffer)) ⌝ }
+    ensures { λ r. ⌜ Laid 0 (sheetBytes (counted sheet)) (now (buffer .entry)) (now (buffer .exit)) r ⌝ }
+{
+    let at_speed_count = put(buffer, 0, sheet.bound);
+    let at_speeds = put(buffer, at_speed_count, sheet.speed_count);
+    let at_horizon = put_speeds(buffer, at_speeds, sheet);
+    let at_job_count = put(buffer, at_horizon, sheet.horizon);
+    let at_jobs = put(buffer, at_job_count, sheet.job_count);
+    put_jobs(buffer, at_jobs, sheet)
+}
+
+// Writes a sheet.
+pub fn write(sheet: Sheet, buffer: &mut [u8]) -> Written
+    ensures { λ r. ⌜ IsWritten (counted sheet) (now (buffer .entry)) (r .number) (r .length) (now (buffer .exit)) ⌝ }
+{
+    let counts = table();
+    let number = sheet_refusal(&counts, sheet);
+    if number != 0 {
+        return Written { number, length: 0 };
+    }
+    if buffer.len() < sheet_length(sheet) {
+        return Written {
+            number: 11,
+            length: 0,
+        };
+    }
+    let length = put_sheet(buffer, sheet);
+    Written { number: 0, length }
+}
