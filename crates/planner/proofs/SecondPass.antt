@@ -26,8 +26,8 @@ use Rattle.rows.specs.declared.sizes.Sizes.{Sizes}
 use Rattle.rows.proofs.Measures.{sized-same, measured}
 use Rattle.ahead.specs.Sums.{sumTo}
 use Rattle.ahead.proofs.AnyRow.{sums-strict}
+use Rattle.speed_lanes.specs.Lanes.{SpeedTable}
 use Rattle.choose.specs.Choice.{costBy, leastTo, leastBy, byteOf}
-use Rattle.choose.specs.Lanes.{SpeedTable}
 use Rattle.choose.specs.Pass.{Given, LeftAll}
 use Rattle.choose.proofs.Choices.{least-zero, least-suc}
 use Rattle.choose.proofs.AnyRow.{given-for, values-for, plan-for}

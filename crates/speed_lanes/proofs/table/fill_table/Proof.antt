@@ -3,8 +3,8 @@ use borrow.Author.Needs.{needs}
 use Rattle.model.specs.Counted.{counted}
 use Rattle.model.proofs.Refusal.{ranged}
 use Rattle.rows.proofs.Tables.{table-whole}
-use Rattle.choose.proofs.table.fill_table.Statement.{statement}
-use Rattle.choose.proofs.table.fill_table.Tie as tie
+use Rattle.speed_lanes.proofs.table.fill_table.Statement.{statement}
+use Rattle.speed_lanes.proofs.table.fill_table.Tie as tie
 
 fill-speeds-requires : tie.Need-fill-speeds-requires
 fill-speeds-requires c κs = search needs

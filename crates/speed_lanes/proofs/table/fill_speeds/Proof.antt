@@ -9,8 +9,8 @@ use Rattle.model.proofs.Refusal.{Ranged, ranged}
 use Rattle.sheets.proofs.Places.{speed-counts}
 use Rattle.rows.specs.Tables.{Columns}
 use Rattle.rows.proofs.Tables.{columns-none}
-use Rattle.choose.proofs.table.fill_speeds.Statement.{statement}
-use Rattle.choose.proofs.table.fill_speeds.Tie as tie
+use Rattle.speed_lanes.proofs.table.fill_speeds.Statement.{statement}
+use Rattle.speed_lanes.proofs.table.fill_speeds.Tie as tie
 
 abbrev Inv-loop : tie.InvT-loop
 Inv-loop lanes₀ sheet place₀ lanes place =

@@ -20,7 +20,7 @@ ghost use Rattle.queues.specs.Counts.{HoldsCounts};
 ghost use Rattle.value.specs.Fills.{Fills, numberAt};
 ghost use Rattle.rows.specs.Sizes.{Measured};
 ghost use Rattle.rows.specs.Tables.{lineAt, Columns, LinesPut};
-ghost use Rattle.choose.specs.Lanes.{leadsOn, slowestIn, laneOf, speedLine, SpeedTable};
+ghost use Rattle.speed_lanes.specs.Lanes.{leadsOn, slowestIn, laneOf, speedLine, SpeedTable};
 
 // Whether a speed leads on: it is at least w(1), and the queue after the slot is bearable.
 fn leads_on(sizes: Sizes, queue: [u32; 6], speed: u32) -> bool

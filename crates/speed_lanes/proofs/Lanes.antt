@@ -19,7 +19,7 @@ use Rattle.queues.specs.Blocks.{Alike}
 use Rattle.queues.proofs.Blocks.{number-last, bearable-with}
 use Rattle.queues.proofs.Places.{total-in, positions-in}
 use Rattle.rows.proofs.Measures.{one-fewer}
-use Rattle.choose.specs.Lanes.{afterOf, leadsOn, laneOf, Lane}
+use Rattle.speed_lanes.specs.Lanes.{afterOf, leadsOn, laneOf, Lane}
 
 -- the queue after a slot
 

@@ -10,10 +10,10 @@ use Rattle.queues.specs.Order.{Ranges, Numbered}
 use Rattle.queues.proofs.RoundTrip.{number-in-below}
 use Rattle.sheets.proofs.Answers.{passed-by, failed-by}
 use Rattle.rows.proofs.Measures.{ranges-fewer, one-fewer, after-room}
-use Rattle.choose.specs.Lanes.{afterOf, leadsOn}
-use Rattle.choose.proofs.Lanes.{after-places, leads-parts}
-use Rattle.choose.proofs.table.lane_of.Statement.{statement}
-use Rattle.choose.proofs.table.lane_of.Tie as tie
+use Rattle.speed_lanes.specs.Lanes.{afterOf, leadsOn}
+use Rattle.speed_lanes.proofs.Lanes.{after-places, leads-parts}
+use Rattle.speed_lanes.proofs.table.lane_of.Statement.{statement}
+use Rattle.speed_lanes.proofs.table.lane_of.Tie as tie
 
 -- what is left of the queue, in the places that `after` answers
 same : (c : tie.After-struct-known) →

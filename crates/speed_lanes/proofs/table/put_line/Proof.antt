@@ -13,9 +13,9 @@ use Rattle.rows.specs.Tables.{lineAt}
 use Rattle.rows.proofs.Kept.{first-in, first-numbered, lowest-in}
 use Rattle.rows.proofs.Measures.{after-room}
 use Rattle.rows.proofs.Tables.{line-stored, line-same, line-within}
-use Rattle.choose.specs.Lanes.{slowestIn, laneOf}
-use Rattle.choose.proofs.table.put_line.Statement.{statement}
-use Rattle.choose.proofs.table.put_line.Tie as tie
+use Rattle.speed_lanes.specs.Lanes.{slowestIn, laneOf}
+use Rattle.speed_lanes.proofs.table.put_line.Statement.{statement}
+use Rattle.speed_lanes.proofs.table.put_line.Tie as tie
 
 -- the sheet keeps its ranges
 in-range : (c : tie.Start) → Ranged (counted (c .args .sheet))

@@ -4,9 +4,9 @@ use native.Mathlib.Omega.{arith}
 use borrow.Author.Needs.{needs}
 use Rattle.model.specs.Queue.{Queue, queueIn, bearable}
 use Rattle.queues.proofs.Places.{total-in}
-use Rattle.choose.proofs.Lanes.{after-places, leads-slow, leads-fast}
-use Rattle.choose.proofs.table.leads_on.Statement.{statement}
-use Rattle.choose.proofs.table.leads_on.Tie as tie
+use Rattle.speed_lanes.proofs.Lanes.{after-places, leads-slow, leads-fast}
+use Rattle.speed_lanes.proofs.table.leads_on.Statement.{statement}
+use Rattle.speed_lanes.proofs.table.leads_on.Tie as tie
 
 array-read-if1 : tie.Need-array-read-if1
 array-read-if1 c = search needs

@@ -10,9 +10,9 @@ use Rattle.model.specs.declared.Speed.{Speed}
 use Rattle.model.proofs.Refusal.{Ranged, ranged}
 use Rattle.model.proofs.Tests.{first-found, first-more}
 use Rattle.sheets.proofs.Places.{speed-counts}
-use Rattle.choose.specs.Lanes.{leadsOn}
-use Rattle.choose.proofs.table.slowest.Statement.{statement}
-use Rattle.choose.proofs.table.slowest.Tie as tie
+use Rattle.speed_lanes.specs.Lanes.{leadsOn}
+use Rattle.speed_lanes.proofs.table.slowest.Statement.{statement}
+use Rattle.speed_lanes.proofs.table.slowest.Tie as tie
 
 abbrev Inv-loop : tie.InvT-loop
 Inv-loop sizes queue sheet place₀ place =

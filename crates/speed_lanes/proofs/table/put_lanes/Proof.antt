@@ -9,9 +9,9 @@ use Rattle.model.proofs.Refusal.{Ranged, ranged}
 use Rattle.sheets.proofs.Places.{speed-counts}
 use Rattle.value.specs.Fills.{Fills, numberAt}
 use Rattle.value.proofs.Filling.{number-local, fills-none, fills-more, fills-whole, number-stored}
-use Rattle.choose.specs.Lanes.{laneOf}
-use Rattle.choose.proofs.table.put_lanes.Statement.{statement}
-use Rattle.choose.proofs.table.put_lanes.Tie as tie
+use Rattle.speed_lanes.specs.Lanes.{laneOf}
+use Rattle.speed_lanes.proofs.table.put_lanes.Statement.{statement}
+use Rattle.speed_lanes.proofs.table.put_lanes.Tie as tie
 
 abbrev Inv-loop : tie.InvT-loop
 Inv-loop counts sizes queue at lanes₀ sheet place₀ lanes place =

@@ -4,9 +4,9 @@ use native.Mathlib.Omega.{arith}
 use Rattle.model.specs.Counted.{counted}
 use Rattle.rows.specs.Tables.{LinesPut}
 use Rattle.rows.proofs.Tables.{put-none, put-more, put-all}
-use Rattle.choose.specs.Lanes.{speedLine}
-use Rattle.choose.proofs.table.fill_lines.Statement.{statement}
-use Rattle.choose.proofs.table.fill_lines.Tie as tie
+use Rattle.speed_lanes.specs.Lanes.{speedLine}
+use Rattle.speed_lanes.proofs.table.fill_lines.Statement.{statement}
+use Rattle.speed_lanes.proofs.table.fill_lines.Tie as tie
 
 abbrev Inv-loop : tie.InvT-loop
 Inv-loop counts sheet sizes lanes₀ block₀ lanes block =
