@@ -20,7 +20,7 @@ use Rattle.rows.specs.Rows.{afterWith, Row, RowOf}
 use Rattle.rows.specs.Sizes.{Sized}
 use Rattle.rows.specs.declared.sizes.Sizes.{Sizes}
 use Rattle.rows.proofs.Measures.{sized-same, measured}
-use Rattle.ahead.specs.Lanes.{EntryTable}
+use Rattle.entry_lanes.specs.Lanes.{EntryTable}
 use Rattle.ahead.specs.Pass.{Given, sumLeft}
 use Rattle.ahead.proofs.AnyRow.{given-for, left-for}
 use Rattle.planner.specs.Passes.{valueWith, choiceWith, aheadTo, aheadOf, queueAfter, ValueRow, Ready}

@@ -13,7 +13,7 @@ ghost use Rattle.model.specs.Plan.{valuesNeeded, planNeeded};
 ghost use Rattle.value.specs.Fills.{Fills};
 ghost use Rattle.value.specs.Narrow.{width, valueOf};
 ghost use Rattle.value.specs.Width.{readAt};
-ghost use Rattle.ahead.specs.Lanes.{EntryTable};
+ghost use Rattle.entry_lanes.specs.Lanes.{EntryTable};
 ghost use Rattle.speed_lanes.specs.Lanes.{SpeedTable};
 ghost use Rattle.planner.specs.Passes.{aheadOf, queueAfter, ValueRow, AheadRow, Prepared, Ready, Planned, PlannedFrom};
 
@@ -182,7 +182,7 @@ pub fn fill(counts: &[u32; 2352], sheet: Sheet, sizes: Sizes, values: &mut [u64]
 {
     let mut entry_lanes = [0; 33979];
     let mut speed_lanes = [0; 49606];
-    ahead::fill_table(counts, sheet, sizes, &mut entry_lanes);
+    entry_lanes::fill_table(counts, sheet, sizes, &mut entry_lanes);
     speed_lanes::fill_table(counts, sheet, sizes, &mut speed_lanes);
     fill_end(sizes.queues, place(sizes.queues, sheet.horizon, 0), values);
     fill_slots(

@@ -23,8 +23,7 @@ ghost use Rattle.queues.specs.Slot.{Small};
 ghost use Rattle.value.specs.Fills.{Fills, numberAt};
 ghost use Rattle.rows.specs.Sizes.{Measured};
 ghost use Rattle.rows.specs.Tables.{lineAt, Columns, LinesPut};
-ghost use Rattle.ahead.specs.Lanes.{firstAfter, liftOf, stepsOf, stepsTo, laneOf, entryLine, EntryTable};
-ghost use Rattle.ahead.specs.Sums.{joined};
+ghost use Rattle.entry_lanes.specs.Lanes.{firstAfter, joined, liftOf, stepsOf, stepsTo, laneOf, entryLine, EntryTable};
 
 // How much an entry lifts the last total but one: by its size, where it is due before the deadline bound.
 fn lift_of(bound: usize, one: Job) -> u32

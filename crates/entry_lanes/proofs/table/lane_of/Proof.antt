@@ -8,8 +8,8 @@ use Rattle.model.specs.Queue.{queueIn, numberOf}
 use Rattle.queues.specs.Order.{Numbered}
 use Rattle.queues.proofs.RoundTrip.{number-in-below}
 use Rattle.sheets.proofs.Answers.{passed-by, failed-by}
-use Rattle.ahead.proofs.table.lane_of.Statement.{statement}
-use Rattle.ahead.proofs.table.lane_of.Tie as tie
+use Rattle.entry_lanes.proofs.table.lane_of.Statement.{statement}
+use Rattle.entry_lanes.proofs.table.lane_of.Tie as tie
 
 -- a queue that is bearable has a number
 numbered : (c : tie.Else1) → Numbered (c .before .before .args .sizes .largest) (c .before .before .args .sizes .bound)

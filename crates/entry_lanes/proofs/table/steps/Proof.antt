@@ -11,11 +11,11 @@ use Rattle.model.proofs.Refusal.{Ranged, ranged}
 use Rattle.queues.proofs.Places.{total-in}
 use Rattle.sheets.proofs.Places.{job-counts}
 use Rattle.rows.proofs.Measures.{most-total}
-use Rattle.ahead.specs.Lanes.{stepsOf, stepsTo}
-use Rattle.ahead.proofs.Adding.{steps-begun, steps-more}
-use Rattle.ahead.proofs.Firsts.{joined-in, most-fewer}
-use Rattle.ahead.proofs.table.steps.Statement.{statement}
-use Rattle.ahead.proofs.table.steps.Tie as tie
+use Rattle.entry_lanes.specs.Lanes.{stepsOf, stepsTo}
+use Rattle.entry_lanes.proofs.Firsts.{joined-in, most-fewer}
+use Rattle.entry_lanes.proofs.Lanes.{steps-begun, steps-more}
+use Rattle.entry_lanes.proofs.table.steps.Statement.{statement}
+use Rattle.entry_lanes.proofs.table.steps.Tie as tie
 
 abbrev Inv-loop : tie.InvT-loop
 Inv-loop sizes queue sheet most least₀ place₀ least place =

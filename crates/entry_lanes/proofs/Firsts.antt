@@ -17,7 +17,7 @@ use Rattle.queues.proofs.Places.{positions-in, total-in}
 use Rattle.queues.proofs.Slots.{length-kept, last-kept, bearable-kept, bearable-small}
 use Rattle.rows.proofs.Kept.{kept-places, last-in}
 use Rattle.rows.proofs.Measures.{ranges-fewer, one-fewer}
-use Rattle.ahead.specs.Lanes.{firstAfter}
+use Rattle.entry_lanes.specs.Lanes.{firstAfter}
 
 -- there is one queue of no position
 pub no-position : (w : Queue) → length w ≡ 0 → w ≡ []

@@ -4,9 +4,9 @@ use native.Mathlib.Omega.{arith}
 use Rattle.model.specs.Counted.{counted}
 use Rattle.rows.specs.Tables.{LinesPut}
 use Rattle.rows.proofs.Tables.{put-none, put-more, put-all}
-use Rattle.ahead.specs.Lanes.{entryLine}
-use Rattle.ahead.proofs.table.fill_lines.Statement.{statement}
-use Rattle.ahead.proofs.table.fill_lines.Tie as tie
+use Rattle.entry_lanes.specs.Lanes.{entryLine}
+use Rattle.entry_lanes.proofs.table.fill_lines.Statement.{statement}
+use Rattle.entry_lanes.proofs.table.fill_lines.Tie as tie
 
 abbrev Inv-loop : tie.InvT-loop
 Inv-loop counts sheet sizes lanes₀ block₀ lanes block =

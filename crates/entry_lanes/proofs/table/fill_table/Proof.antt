@@ -3,8 +3,8 @@ use borrow.Author.Needs.{needs}
 use Rattle.model.specs.Counted.{counted}
 use Rattle.model.proofs.Refusal.{ranged}
 use Rattle.rows.proofs.Tables.{table-whole}
-use Rattle.ahead.proofs.table.fill_table.Statement.{statement}
-use Rattle.ahead.proofs.table.fill_table.Tie as tie
+use Rattle.entry_lanes.proofs.table.fill_table.Statement.{statement}
+use Rattle.entry_lanes.proofs.table.fill_table.Tie as tie
 
 fill-entries-requires : tie.Need-fill-entries-requires
 fill-entries-requires c κs = search needs

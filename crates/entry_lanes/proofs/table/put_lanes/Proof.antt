@@ -10,11 +10,10 @@ use Rattle.model.proofs.Refusal.{Ranged, ranged}
 use Rattle.sheets.proofs.Places.{job-counts}
 use Rattle.value.specs.Fills.{Fills, numberAt}
 use Rattle.value.proofs.Filling.{number-local, fills-none, fills-more, fills-whole, number-stored}
-use Rattle.ahead.specs.Lanes.{laneOf}
-use Rattle.ahead.specs.Sums.{joined}
-use Rattle.ahead.proofs.Firsts.{joined-in}
-use Rattle.ahead.proofs.table.put_lanes.Statement.{statement}
-use Rattle.ahead.proofs.table.put_lanes.Tie as tie
+use Rattle.entry_lanes.specs.Lanes.{joined, laneOf}
+use Rattle.entry_lanes.proofs.Firsts.{joined-in}
+use Rattle.entry_lanes.proofs.table.put_lanes.Statement.{statement}
+use Rattle.entry_lanes.proofs.table.put_lanes.Tie as tie
 
 abbrev Inv-loop : tie.InvT-loop
 Inv-loop counts sizes queue at lanes₀ sheet place₀ lanes place =

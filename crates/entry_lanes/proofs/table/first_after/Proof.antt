@@ -8,9 +8,9 @@ use Rattle.queues.specs.Blocks.{firstOf}
 use Rattle.queues.specs.Order.{Ranges}
 use Rattle.queues.specs.Slot.{kept}
 use Rattle.rows.proofs.Measures.{ranges-fewer, one-fewer}
-use Rattle.ahead.proofs.Firsts.{after-places}
-use Rattle.ahead.proofs.table.first_after.Statement.{statement}
-use Rattle.ahead.proofs.table.first_after.Tie as tie
+use Rattle.entry_lanes.proofs.Firsts.{after-places}
+use Rattle.entry_lanes.proofs.table.first_after.Statement.{statement}
+use Rattle.entry_lanes.proofs.table.first_after.Tie as tie
 
 -- the block is one
 block : (c : tie.Start) → c .args .block < queueCount (c .args .sizes .largest) (pred (pred (c .args .sizes .bound)))

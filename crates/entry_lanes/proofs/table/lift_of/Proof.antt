@@ -5,8 +5,8 @@ use mathlib.Core.Bool.{Bool, cond}
 use native.Mathlib.Omega.{arith}
 use borrow.Author.Tests.{le-leb, lt-leb}
 use borrow.Author.Needs.{needs}
-use Rattle.ahead.proofs.table.lift_of.Statement.{statement}
-use Rattle.ahead.proofs.table.lift_of.Tie as tie
+use Rattle.entry_lanes.proofs.table.lift_of.Statement.{statement}
+use Rattle.entry_lanes.proofs.table.lift_of.Tie as tie
 
 cast-if1 : tie.Need-cast-if1
 cast-if1 c = search needs

@@ -12,10 +12,10 @@ use Rattle.model.proofs.Queues.{length-in}
 use Rattle.queues.proofs.Places.{total-in}
 use Rattle.sheets.proofs.Answers.{passed-by, failed-by}
 use Rattle.rows.proofs.Measures.{most-total, one-fewer}
-use Rattle.ahead.proofs.Firsts.{most-fewer, last-held, before-held}
-use Rattle.ahead.proofs.Lanes.{steps-told}
-use Rattle.ahead.proofs.table.steps_of.Statement.{statement}
-use Rattle.ahead.proofs.table.steps_of.Tie as tie
+use Rattle.entry_lanes.proofs.Firsts.{most-fewer, last-held, before-held}
+use Rattle.entry_lanes.proofs.Lanes.{steps-told}
+use Rattle.entry_lanes.proofs.table.steps_of.Statement.{statement}
+use Rattle.entry_lanes.proofs.table.steps_of.Tie as tie
 
 -- what the totals at the last two positions are held to
 held : (c : tie.After-struct-known) →

@@ -9,9 +9,9 @@ use Rattle.model.proofs.Refusal.{Ranged, ranged}
 use Rattle.sheets.proofs.Places.{job-counts}
 use Rattle.rows.specs.Tables.{Columns}
 use Rattle.rows.proofs.Tables.{columns-none}
-use Rattle.ahead.specs.Lanes.{liftOf}
-use Rattle.ahead.proofs.table.fill_entries.Statement.{statement}
-use Rattle.ahead.proofs.table.fill_entries.Tie as tie
+use Rattle.entry_lanes.specs.Lanes.{liftOf}
+use Rattle.entry_lanes.proofs.table.fill_entries.Statement.{statement}
+use Rattle.entry_lanes.proofs.table.fill_entries.Tie as tie
 
 abbrev Inv-loop : tie.InvT-loop
 Inv-loop bound lanes₀ sheet place₀ lanes place =

@@ -1,15 +1,17 @@
 -- Laws of the lanes of the entries (specs/Lanes.antt): queues whose last two totals rise together, with an arrival, as long as they are
--- bearable, and their numbers.
+-- bearable, and their numbers; and the steps for which every arrival leads to a bearable queue.
 use Prim.Native.Nat.{ℕ, zero, suc, pred, min, _+_, _-_, _*_, _≤_, _<_, zero-le}
 use mathlib.Core.Path.{_≡_, refl, sym, ap, _∙_, subst}
 use mathlib.Core.Bool.{Bool, true, false, cond}
 use mathlib.Core.List.{[]}
 use mathlib.Core.Logic.{_⊎_, inl, inr}
-use native.Mathlib.Nat.{zero-mul, add-zero, suc-mul, not-suc-le-zero, eq-or-lt-of-le, le-refl}
+use native.Mathlib.Nat.{zero-mul, add-zero, suc-mul, not-suc-le-zero, eq-or-lt-of-le, le-refl, le-of-suc-le-suc}
 use native.Mathlib.Numerals.{add-one}
 use native.Mathlib.Omega.{arith}
-use lib.Dec.{T}
+use borrow.Author.Tests.{leb-true, leb-false}
+use lib.Dec.{T, leb}
 use lib.ListN.{length}
+use Rattle.model.specs.Counted.{Counted}
 use Rattle.model.specs.Queue.{Queue, total, NeverFalls, NoLonger, bearable, queueCount, numberOf, arrive}
 use Rattle.model.proofs.Longer.{no-longer-by, arrive-never-falls, bearable-carries}
 use Rattle.model.proofs.Queues.{length-arrive, total-arrive, bearable-at, bearable-all, listed-bearable}
@@ -19,8 +21,8 @@ use Rattle.queues.specs.Slot.{kept}
 use Rattle.queues.proofs.Blocks.{number-shift, risen-none, risen-less, block-place, block-alike, first-queue}
 use Rattle.queues.proofs.Slots.{length-kept, total-kept, last-kept, bearable-kept}
 use Rattle.rows.specs.Rows.{afterWith}
-use Rattle.ahead.specs.Lanes.{firstAfter, liftOf, stepsOf, laneOf, Lane}
-use Rattle.ahead.proofs.Firsts.{no-position}
+use Rattle.entry_lanes.specs.Lanes.{firstAfter, joined, liftOf, stepsOf, stepsTo, laneOf, Lane}
+use Rattle.entry_lanes.proofs.Firsts.{no-position}
 
 -- where a queue is bearable
 
@@ -242,3 +244,39 @@ lane-says M (suc (suc n)) b k c dl low h high =
     (shifted-kept (suc n) k (firstOf M (suc n) b) (queueWith M (suc n) m) alike (omega (arith, placed .1, first .2)))
     (λ u l. bearable-at M (kept (firstOf M (suc n) b)) (subst T (sym (bearable-kept M (firstOf M (suc n) b))) (first .1)) u l .0)
     (total-kept (firstOf M (suc n) b) (suc n) (omega (arith, first .0)) ∙ first .2)
+
+-- the steps for which every arrival leads to a bearable queue
+
+module _ (M D : ℕ) (s : Counted) (v : Queue) where
+  -- of no entries they are those of a block
+  pub steps-begun : suc (pred D * M - total v D) ≡ stepsTo M D s v 0
+  unfolding stepsTo
+  steps-begun = refl
+
+  -- with one entry more
+  pub steps-more : (j : ℕ) {least steps next : ℕ} → least ≡ stepsTo M D s v j → steps ≡ stepsOf M D (joined s v j) → next ≡ min least steps →
+      next ≡ stepsTo M D s v (j + 1)
+  unfolding stepsTo
+  steps-more j {steps = steps} e d here = rw add-one (here ∙ ap (λ (x : ℕ). min x steps) e ∙ ap (min (stepsTo M D s v j)) d)
+
+  -- a step before their end is one of each entry
+  pub steps-each : (n k j : ℕ) → k < stepsTo M D s v n → j < n → k < stepsOf M D (joined s v j)
+  unfolding stepsTo
+  steps-each zero k j h l = absurd (not-suc-le-zero l)
+  steps-each (suc n) k j h l = go (eq-or-lt-of-le (le-of-suc-le-suc l)) (steps-each n k j (omega arith))
+    where
+      go : (j ≡ n) ⊎ (j < n) → (j < n → k < stepsOf M D (joined s v j)) → k < stepsOf M D (joined s v j)
+      go (inl q) ih = omega (arith, ap (λ (i : ℕ). stepsOf M D (joined s v i)) q)
+      go (inr m) ih = ih m
+
+  -- a step of the block from their end on is one of some entry no more
+  pub steps-past : (n k : ℕ) → stepsTo M D s v n ≤ k → k ≤ pred D * M - total v D → (j : ℕ) × (j < n) × (stepsOf M D (joined s v j) ≤ k)
+  unfolding stepsTo
+  steps-past zero k h high = absurd (omega arith)
+  steps-past (suc n) k h high = go (leb (stepsTo M D s v n) k) refl (λ l. steps-past n k l high)
+    where
+      go : (b : Bool) → leb (stepsTo M D s v n) k ≡ b →
+          (stepsTo M D s v n ≤ k → (j : ℕ) × (j < n) × (stepsOf M D (joined s v j) ≤ k)) →
+          (j : ℕ) × (j < suc n) × (stepsOf M D (joined s v j) ≤ k)
+      go true e ih = let found = ih (leb-true (stepsTo M D s v n) k e) in (found .0, omega (arith, found .1), found .2)
+      go false e ih = (n, omega arith, omega (arith, leb-false (stepsTo M D s v n) k e))

@@ -12,11 +12,10 @@ use Rattle.rows.specs.Tables.{lineAt}
 use Rattle.rows.proofs.Kept.{last-in}
 use Rattle.rows.proofs.Measures.{one-fewer, after-room, blocks-few}
 use Rattle.rows.proofs.Tables.{line-stored, line-same, line-within}
-use Rattle.ahead.specs.Lanes.{firstAfter, stepsTo, laneOf}
-use Rattle.ahead.specs.Sums.{joined}
-use Rattle.ahead.proofs.Firsts.{after-in, after-small, before-in, before-numbered, after-lowest, lowest-upto}
-use Rattle.ahead.proofs.table.put_line.Statement.{statement}
-use Rattle.ahead.proofs.table.put_line.Tie as tie
+use Rattle.entry_lanes.specs.Lanes.{firstAfter, joined, stepsTo, laneOf}
+use Rattle.entry_lanes.proofs.Firsts.{after-in, after-small, before-in, before-numbered, after-lowest, lowest-upto}
+use Rattle.entry_lanes.proofs.table.put_line.Statement.{statement}
+use Rattle.entry_lanes.proofs.table.put_line.Tie as tie
 
 -- the sheet keeps its ranges
 in-range : (c : tie.Start) → Ranged (counted (c .args .sheet))

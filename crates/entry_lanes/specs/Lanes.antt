@@ -8,15 +8,18 @@ use mathlib.Core.Bool.{false, cond}
 use mathlib.Core.List.{List}
 use lib.Dec.{T, leb}
 use Rattle.model.specs.Counted.{Counted, weightAt, sizeAt, deadlineAt}
-use Rattle.model.specs.Queue.{Queue, total, bearable, queueCount, numberOf}
+use Rattle.model.specs.Queue.{Queue, total, bearable, queueCount, numberOf, arrive}
 use Rattle.queues.specs.Blocks.{firstOf, startOf, lowestOf, risen}
 use Rattle.queues.specs.Slot.{kept}
 use Rattle.rows.specs.Tables.{lineOf, Table}
-use Rattle.ahead.specs.Sums.{joined}
 
 -- the first queue after a slot of block b
 abbrev pub firstAfter : ℕ → ℕ → ℕ → Queue
 firstAfter M D b = kept (firstOf M (pred D) b)
+
+-- a queue with the arrival of the entry at place j
+abbrev pub joined : Counted → Queue → ℕ → Queue
+joined s v j = arrive v (sizeAt s j) (deadlineAt s j)
 
 -- how much an entry lifts the last total but one: by its size, where it is due before D
 abbrev pub liftOf : ℕ → ℕ → ℕ → ℕ
