@@ -15,7 +15,7 @@ ghost use Rattle.value.specs.Narrow.{width, valueOf};
 ghost use Rattle.value.specs.Width.{readAt};
 ghost use Rattle.entry_lanes.specs.Lanes.{EntryTable};
 ghost use Rattle.speed_lanes.specs.Lanes.{SpeedTable};
-ghost use Rattle.planner.specs.Passes.{aheadOf, queueAfter, ValueRow, AheadRow, Prepared, Ready, Planned, PlannedFrom};
+ghost use Rattle.backward.specs.Passes.{aheadOf, queueAfter, ValueRow, AheadRow, Prepared, Ready, Planned, PlannedFrom};
 
 // Of a slot: how many slots are left after it, the places where its row of values, the next slot's row of values and its row of the plan
 // begin, and W to the power of the slots left, this one counted.

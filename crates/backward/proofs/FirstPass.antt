@@ -23,8 +23,8 @@ use Rattle.rows.proofs.Measures.{sized-same, measured}
 use Rattle.entry_lanes.specs.Lanes.{EntryTable}
 use Rattle.ahead.specs.Pass.{Given, sumLeft}
 use Rattle.ahead.proofs.AnyRow.{given-for, left-for}
-use Rattle.planner.specs.Passes.{valueWith, choiceWith, aheadTo, aheadOf, queueAfter, ValueRow, Ready}
-use Rattle.planner.proofs.Fits.{most, value-upto, ahead-fits}
+use Rattle.backward.specs.Passes.{valueWith, choiceWith, aheadTo, aheadOf, queueAfter, ValueRow, Ready}
+use Rattle.backward.proofs.Fits.{most, value-upto, ahead-fits}
 
 -- what a queue is worth
 

@@ -9,10 +9,9 @@ use Rattle.model.proofs.Refusal.{Accepted, accepted, fields-right}
 use Rattle.value.specs.Narrow.{width}
 use Rattle.rows.specs.Sizes.{Measured}
 use Rattle.rows.proofs.Measures.{measured, lines-room, entry-lines-room}
-use Rattle.planner.proofs.Backward.{end-room, planned-none, planned-since}
-use Rattle.planner.proofs.Outcomes.{sizes-small}
-use Rattle.planner.proofs.slots.fill.Statement.{statement}
-use Rattle.planner.proofs.slots.fill.Tie as tie
+use Rattle.backward.proofs.Backward.{sizes-small, end-room, planned-none, planned-since}
+use Rattle.backward.proofs.slots.fill.Statement.{statement}
+use Rattle.backward.proofs.slots.fill.Tie as tie
 
 -- the sheet is accepted
 right : (c : tie.Start) → Accepted (counted (c .args .sheet))

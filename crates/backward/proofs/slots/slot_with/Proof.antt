@@ -1,9 +1,9 @@
 -- `slot_with` meets its contract: the slot's row stands so many rows before the end row, one before the next.
 use mathlib.Core.Path.{refl}
 use borrow.Author.Needs.{needs}
-use Rattle.planner.proofs.Backward.{row-next, row-back}
-use Rattle.planner.proofs.slots.slot_with.Statement.{statement}
-use Rattle.planner.proofs.slots.slot_with.Tie as tie
+use Rattle.backward.proofs.Backward.{row-next, row-back}
+use Rattle.backward.proofs.slots.slot_with.Statement.{statement}
+use Rattle.backward.proofs.slots.slot_with.Tie as tie
 
 sub-this : tie.Need-sub-this
 sub-this c = search needs

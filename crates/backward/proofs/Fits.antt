@@ -14,7 +14,7 @@ use Rattle.model.proofs.Recursion.{value-most}
 use Rattle.model.proofs.Refusal.{Accepted, G-covers, W-low, power-fits}
 use Rattle.value.specs.Width.{Width}
 use Rattle.ahead.proofs.AnyRow.{sums-upto}
-use Rattle.planner.specs.Passes.{valueWith, aheadTo, aheadOf}
+use Rattle.backward.specs.Passes.{valueWith, aheadTo, aheadOf}
 
 module _ (s : Counted) where
   -- what k slots can cost at most, scaled

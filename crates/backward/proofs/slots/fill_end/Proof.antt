@@ -7,8 +7,8 @@ use Rattle.value.specs.Fills.{Fills}
 use Rattle.value.specs.Narrow.{width}
 use Rattle.value.specs.Width.{readAt}
 use Rattle.value.proofs.Filling.{read-local, fills-none, fills-more, fills-whole}
-use Rattle.planner.proofs.slots.fill_end.Statement.{statement}
-use Rattle.planner.proofs.slots.fill_end.Tie as tie
+use Rattle.backward.proofs.slots.fill_end.Statement.{statement}
+use Rattle.backward.proofs.slots.fill_end.Tie as tie
 
 abbrev Inv-loop : tie.InvT-loop
 Inv-loop queues from values₀ number₀ values number =

@@ -2,9 +2,9 @@
 use native.Mathlib.Omega.{arith}
 use borrow.Author.Needs.{needs}
 use Rattle.value.specs.Narrow.{width}
-use Rattle.planner.proofs.FirstPass.{first-given, first-left}
-use Rattle.planner.proofs.slots.fill_ahead.Statement.{statement}
-use Rattle.planner.proofs.slots.fill_ahead.Tie as tie
+use Rattle.backward.proofs.FirstPass.{first-given, first-left}
+use Rattle.backward.proofs.slots.fill_ahead.Statement.{statement}
+use Rattle.backward.proofs.slots.fill_ahead.Tie as tie
 
 fill-requires : tie.Need-fill-requires
 fill-requires c κs =

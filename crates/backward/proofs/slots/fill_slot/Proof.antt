@@ -2,9 +2,9 @@
 use borrow.Author.Needs.{needs}
 use Rattle.model.specs.Counted.{counted}
 use Rattle.value.specs.Narrow.{width}
-use Rattle.planner.proofs.Backward.{ahead-stands}
-use Rattle.planner.proofs.slots.fill_slot.Statement.{statement}
-use Rattle.planner.proofs.slots.fill_slot.Tie as tie
+use Rattle.backward.proofs.Backward.{ahead-stands}
+use Rattle.backward.proofs.slots.fill_slot.Statement.{statement}
+use Rattle.backward.proofs.slots.fill_slot.Tie as tie
 
 fill-ahead-requires : tie.Need-fill-ahead-requires
 fill-ahead-requires c κs = search needs

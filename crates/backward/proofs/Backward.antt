@@ -13,16 +13,18 @@ use Rattle.process.specs.Recursion.{plus, times}
 use Rattle.model.specs.Counted.{Counted, W, M}
 use Rattle.model.specs.Plan.{queueAt, placeAt, valuesNeeded, planNeeded}
 use Rattle.model.specs.Queue.{queueCount}
-use Rattle.model.specs.Refusal.{N, valueLimit}
+use Rattle.model.specs.Refusal.{N, valueLimit, sheetRefusal}
 use Rattle.model.proofs.Queues.{listed-bearable}
-use Rattle.model.proofs.Refusal.{Accepted, N-is}
+use Rattle.model.proofs.Refusal.{Accepted, accepted, N-is}
 use Rattle.value.specs.Fills.{Fills, numberAt}
 use Rattle.value.specs.Width.{Width, readAt, Below}
 use Rattle.value.proofs.Filling.{fewer-fit, read-local, number-local, fills-outside}
+use Rattle.rows.specs.Sizes.{Sized}
+use Rattle.rows.specs.declared.sizes.Sizes.{Sizes}
 use Rattle.choose.specs.Choice.{byteOf}
-use Rattle.planner.specs.Passes.{valueWith, choiceWith, aheadOf, queueAfter, ValueRow, AheadRow, InPlan, Planned, PlannedFrom}
-use Rattle.planner.proofs.Fits.{scale-fits}
-use Rattle.planner.proofs.FirstPass.{value-last}
+use Rattle.backward.specs.Passes.{valueWith, choiceWith, aheadOf, queueAfter, ValueRow, AheadRow, InPlan, Planned, PlannedFrom}
+use Rattle.backward.proofs.Fits.{scale-fits}
+use Rattle.backward.proofs.FirstPass.{value-last}
 
 -- the scale, W to the power of the slots left
 
@@ -40,6 +42,10 @@ scale-room width roomy s a k h same e d =
     subst (λ (r : Option ℕ). Below (width .limit) r) (sym (scale-next (W s) k same e d)) (scale-fits s a width roomy k h)
 
 -- where the rows stand: row t from place t times N
+
+-- of an accepted sheet: its queues and its slots are few enough for a place to be worked out
+pub sizes-small : (s : Counted) {sizes : Sizes} → sheetRefusal s ≡ 0 → Sized s sizes → (sizes .queues ≤ 65535) × (s .horizon ≤ 200)
+sizes-small s e sized = let a = accepted s e in (omega (arith, sized .queues-is, a .queues-high), a .ranged .horizon-high)
 
 -- a row begins where an earlier one has ended, or behind that
 row-behind : (n t u : ℕ) → t < u → t * n + n ≤ u * n

@@ -31,9 +31,9 @@ use Rattle.choose.specs.Choice.{costBy, leastTo, leastBy, byteOf}
 use Rattle.choose.specs.Pass.{Given, LeftAll}
 use Rattle.choose.proofs.Choices.{least-zero, least-suc}
 use Rattle.choose.proofs.AnyRow.{given-for, values-for, plan-for}
-use Rattle.planner.specs.Passes.{valueWith, choiceWith, aheadTo, aheadOf, AheadRow, Ready, Planned}
-use Rattle.planner.proofs.Fits.{most, ahead-upto, cost-fits}
-use Rattle.planner.proofs.FirstPass.{value-chosen, not-bearable-none}
+use Rattle.backward.specs.Passes.{valueWith, choiceWith, aheadTo, aheadOf, AheadRow, Ready, Planned}
+use Rattle.backward.proofs.Fits.{most, ahead-upto, cost-fits}
+use Rattle.backward.proofs.FirstPass.{value-chosen, not-bearable-none}
 
 -- what a speed costs by the recursion, with k slots left after this one
 abbrev costOf : Counted → ℕ → Queue → ℕ → Option ℕ

@@ -2,9 +2,9 @@
 use native.Mathlib.Omega.{arith}
 use borrow.Author.Needs.{needs}
 use Rattle.value.specs.Narrow.{width}
-use Rattle.planner.proofs.SecondPass.{second-given, second-left}
-use Rattle.planner.proofs.slots.fill_row.Statement.{statement}
-use Rattle.planner.proofs.slots.fill_row.Tie as tie
+use Rattle.backward.proofs.SecondPass.{second-given, second-left}
+use Rattle.backward.proofs.slots.fill_row.Statement.{statement}
+use Rattle.backward.proofs.slots.fill_row.Tie as tie
 
 fill-requires : tie.Need-fill-requires
 fill-requires c κs =

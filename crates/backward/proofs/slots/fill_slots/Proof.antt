@@ -11,11 +11,10 @@ use Rattle.model.specs.Counted.{Counted, counted, W}
 use Rattle.model.proofs.Refusal.{accepted, fields-right}
 use Rattle.value.specs.Narrow.{width, valueOf}
 use Rattle.rows.proofs.Measures.{measured, after-room}
-use Rattle.planner.specs.Passes.{PlannedFrom}
-use Rattle.planner.proofs.Backward.{scale-next, scale-room, Stands, slot-stands, slot-in-plan, values-room, plan-room, next-stands, planned-more}
-use Rattle.planner.proofs.Outcomes.{sizes-small}
-use Rattle.planner.proofs.slots.fill_slots.Statement.{statement}
-use Rattle.planner.proofs.slots.fill_slots.Tie as tie
+use Rattle.backward.specs.Passes.{PlannedFrom}
+use Rattle.backward.proofs.Backward.{scale-next, scale-room, sizes-small, Stands, slot-stands, slot-in-plan, values-room, plan-room, next-stands, planned-more}
+use Rattle.backward.proofs.slots.fill_slots.Statement.{statement}
+use Rattle.backward.proofs.slots.fill_slots.Tie as tie
 
 abbrev Inv-loop : tie.InvT-loop
 Inv-loop counts sheet sizes values₀ plan₀ entry-lanes speed-lanes ahead₀ all scale₀ left₀ values plan ahead scale left =
