@@ -15,7 +15,7 @@ ghost use Rattle.model.specs.Plan.{rowRefusal};
 ghost use Rattle.model.specs.Refusal.{fieldsRefusal};
 ghost use Rattle.model.specs.Stepper.{queueRight, planByte, isEntry};
 ghost use Rattle.queues.specs.Counts.{HoldsCounts};
-ghost use Rattle.stepper.specs.Parts.{stateAt};
+ghost use Rattle.lookups.specs.Parts.{stateAt};
 
 // The plan byte at a slot and the number of a queue.
 pub fn plan_byte(counts: &[u32; 2352], sheet: Sheet, plan: &[u8], slot: u32, queue: [u32; 6]) -> u32

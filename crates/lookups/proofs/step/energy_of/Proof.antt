@@ -3,9 +3,9 @@ use native.Mathlib.Omega.{arith}
 use borrow.Author.Needs.{needs}
 use Rattle.model.proofs.Refusal.{ranged}
 use Rattle.model.specs.Counted.{counted}
-use Rattle.stepper.proofs.Looking.{energy-at-place}
-use Rattle.stepper.proofs.step.energy_of.Statement.{statement}
-use Rattle.stepper.proofs.step.energy_of.Tie as tie
+use Rattle.lookups.proofs.Looking.{energy-at-place}
+use Rattle.lookups.proofs.step.energy_of.Statement.{statement}
+use Rattle.lookups.proofs.step.energy_of.Tie as tie
 
 place-of-requires : tie.Need-place-of-requires
 place-of-requires c κs = search needs

@@ -14,9 +14,9 @@ use Rattle.model.specs.Queue.{numberOf}
 use Rattle.model.specs.Refusal.{sheetRefusal, N}
 use Rattle.model.specs.Stepper.{queueOf}
 use Rattle.queues.proofs.Bounds.{ranges-of}
-use Rattle.stepper.proofs.look.plan_byte.Statement.{statement}
-use Rattle.stepper.proofs.look.plan_byte.Tie as tie
-use Rattle.stepper.specs.Parts.{stateAt}
+use Rattle.lookups.proofs.look.plan_byte.Statement.{statement}
+use Rattle.lookups.proofs.look.plan_byte.Tie as tie
+use Rattle.lookups.specs.Parts.{stateAt}
 
 -- the sheet is accepted
 passed : (c : tie.Start) → sheetRefusal (counted (c .args .sheet)) ≡ 0

@@ -9,8 +9,8 @@ use Rattle.model.specs.Counted.{counted, M}
 use Rattle.model.specs.Queue.{Queue, queueIn, placesOf, run, arrive}
 use Rattle.queues.proofs.Slots.{bearable-small, run-small}
 use Rattle.queues.specs.Slot.{Small}
-use Rattle.stepper.proofs.step.next_queue.Statement.{statement}
-use Rattle.stepper.proofs.step.next_queue.Tie as tie
+use Rattle.lookups.proofs.step.next_queue.Statement.{statement}
+use Rattle.lookups.proofs.step.next_queue.Tie as tie
 
 -- the queue has D positions
 long : (c : tie.Start) → length (queueIn (c .args .sheet .bound) (c .args .queue)) ≡ c .args .sheet .bound
