@@ -1,21 +1,17 @@
--- Laws of what is added up (specs/Sums.antt), one entry more at a time, and of the steps for which every arrival leads to a bearable queue.
-use Prim.Native.Nat.{ℕ, zero, suc, pred, min, _+_, _-_, _*_, _≤_, _<_}
+-- Laws of what is added up (specs/Sums.antt), one entry more at a time.
+use Prim.Native.Nat.{ℕ, zero, suc, _+_, _<_}
 use mathlib.Core.Path.{_≡_, refl, sym, ap, _∙_}
-use mathlib.Core.Bool.{Bool, true, false}
 use mathlib.Core.Logic.{_⊎_, inl, inr}
 use mathlib.Core.Option.{Option, none, some}
 use native.Mathlib.Nat.{not-suc-le-zero, eq-or-lt-of-le, le-of-suc-le-suc}
 use native.Mathlib.Numerals.{add-one}
-use native.Mathlib.Omega.{arith}
-use borrow.Author.Tests.{leb-true, leb-false}
-use lib.Dec.{leb}
 use Rattle.process.specs.Recursion.{plus, times, sumOrNone}
 use Rattle.process.proofs.Equations.{sum-or-none-start, sum-or-none-more}
 use Rattle.process.proofs.Value.{plus-none}
 use Rattle.model.specs.Counted.{Counted, weightAt}
-use Rattle.model.specs.Queue.{Queue, total}
-use Rattle.ahead.specs.Lanes.{stepsOf, stepsTo}
-use Rattle.ahead.specs.Sums.{joined, sumTo}
+use Rattle.model.specs.Queue.{Queue}
+use Rattle.entry_lanes.specs.Lanes.{joined}
+use Rattle.ahead.specs.Sums.{sumTo}
 
 module _ (s : Counted) (f : Queue → Option ℕ) (v : Queue) where
   -- over no entries the sum is 0
@@ -56,39 +52,3 @@ sum-same s f g v zero same = refl
 sum-same s f g v (suc n) same =
     ap (λ (r : Option ℕ). plus r (times (weightAt s n) (f (joined s v n)))) (sum-same s f g v n same) ∙
     ap (λ (r : Option ℕ). plus (sumTo s g v n) (times (weightAt s n) r)) (same n)
-
--- the steps
-
-module _ (M D : ℕ) (s : Counted) (v : Queue) where
-  -- of no entries they are those of a block
-  pub steps-begun : suc (pred D * M - total v D) ≡ stepsTo M D s v 0
-  unfolding stepsTo
-  steps-begun = refl
-
-  -- with one entry more
-  pub steps-more : (j : ℕ) {least steps next : ℕ} → least ≡ stepsTo M D s v j → steps ≡ stepsOf M D (joined s v j) → next ≡ min least steps →
-      next ≡ stepsTo M D s v (j + 1)
-  unfolding stepsTo
-  steps-more j {steps = steps} e d here = rw add-one (here ∙ ap (λ (x : ℕ). min x steps) e ∙ ap (min (stepsTo M D s v j)) d)
-
-  -- a step before their end is one of each entry
-  pub steps-each : (n k j : ℕ) → k < stepsTo M D s v n → j < n → k < stepsOf M D (joined s v j)
-  unfolding stepsTo
-  steps-each zero k j h l = absurd (not-suc-le-zero l)
-  steps-each (suc n) k j h l = go (eq-or-lt-of-le (le-of-suc-le-suc l)) (steps-each n k j (omega arith))
-    where
-      go : (j ≡ n) ⊎ (j < n) → (j < n → k < stepsOf M D (joined s v j)) → k < stepsOf M D (joined s v j)
-      go (inl q) ih = omega (arith, ap (λ (i : ℕ). stepsOf M D (joined s v i)) q)
-      go (inr m) ih = ih m
-
-  -- a step of the block from their end on is one of some entry no more
-  pub steps-past : (n k : ℕ) → stepsTo M D s v n ≤ k → k ≤ pred D * M - total v D → (j : ℕ) × (j < n) × (stepsOf M D (joined s v j) ≤ k)
-  unfolding stepsTo
-  steps-past zero k h high = absurd (omega arith)
-  steps-past (suc n) k h high = go (leb (stepsTo M D s v n) k) refl (λ l. steps-past n k l high)
-    where
-      go : (b : Bool) → leb (stepsTo M D s v n) k ≡ b →
-          (stepsTo M D s v n ≤ k → (j : ℕ) × (j < n) × (stepsOf M D (joined s v j) ≤ k)) →
-          (j : ℕ) × (j < suc n) × (stepsOf M D (joined s v j) ≤ k)
-      go true e ih = let found = ih (leb-true (stepsTo M D s v n) k e) in (found .0, omega (arith, found .1), found .2)
-      go false e ih = (n, omega arith, omega (arith, leb-false (stepsTo M D s v n) k e))

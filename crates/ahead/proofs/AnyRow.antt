@@ -28,9 +28,9 @@ use Rattle.rows.specs.Rows.{valueInRow, afterWith, RowOf}
 use Rattle.rows.specs.Sizes.{Measured}
 use Rattle.rows.specs.declared.sizes.Sizes.{Sizes}
 use Rattle.rows.proofs.Rows.{row-says}
-use Rattle.ahead.specs.Lanes.{EntryTable}
+use Rattle.entry_lanes.specs.Lanes.{joined, EntryTable}
 use Rattle.ahead.specs.Pass.{Given, sumLeft}
-use Rattle.ahead.specs.Sums.{joined, sumTo}
+use Rattle.ahead.specs.Sums.{sumTo}
 use Rattle.ahead.proofs.Adding.{sum-same, sum-none}
 
 module _ (s : Counted) (f : Queue → Option ℕ) where

@@ -29,12 +29,11 @@ use Rattle.rows.proofs.Blocks.{block-none, block-more, blocks-none, blocks-more
 use Rattle.rows.proofs.Measures.{most-total}
 use Rattle.rows.proofs.Rows.{none-in-row, read-in-row}
 use Rattle.rows.proofs.Tables.{line-within}
-use Rattle.ahead.specs.Lanes.{firstAfter, liftOf, stepsTo, laneOf, Lane}
+use Rattle.entry_lanes.specs.Lanes.{firstAfter, joined, liftOf, stepsTo, laneOf, Lane}
+use Rattle.entry_lanes.proofs.Firsts.{first-of, lowest-upto, most-fewer}
+use Rattle.entry_lanes.proofs.Lanes.{lane-says, steps-each, steps-past}
 use Rattle.ahead.specs.Pass.{Given, Within, sumLeft, stepped}
-use Rattle.ahead.specs.Sums.{joined}
-use Rattle.ahead.proofs.Adding.{sum-none, steps-each, steps-past}
-use Rattle.ahead.proofs.Firsts.{first-of, lowest-upto, most-fewer}
-use Rattle.ahead.proofs.Lanes.{lane-says}
+use Rattle.ahead.proofs.Adding.{sum-none}
 
 module _ {width : Width} {s : Counted} {sizes : Sizes} {lanes : List ℕ} {next : ℕ} {values : List ℕ}
     (given : Given width s sizes lanes next values) where

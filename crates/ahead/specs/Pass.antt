@@ -11,7 +11,7 @@ use Rattle.value.specs.Width.{Width, Below}
 use Rattle.rows.specs.Rows.{valueInRow, afterWith}
 use Rattle.rows.specs.Sizes.{Measured}
 use Rattle.rows.specs.declared.sizes.Sizes.{Sizes}
-use Rattle.ahead.specs.Lanes.{firstAfter, stepsTo, EntryTable}
+use Rattle.entry_lanes.specs.Lanes.{firstAfter, stepsTo, EntryTable}
 use Rattle.ahead.specs.Sums.{sumTo}
 
 -- what is ahead of the queue after a slot with number i, over the first n entries, by the row that begins at place `next`

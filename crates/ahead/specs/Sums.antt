@@ -3,12 +3,9 @@
 use Prim.Native.Nat.{ℕ}
 use mathlib.Core.Option.{Option}
 use Rattle.process.specs.Recursion.{times, sumOrNone}
-use Rattle.model.specs.Counted.{Counted, weightAt, sizeAt, deadlineAt}
-use Rattle.model.specs.Queue.{Queue, arrive}
-
--- a queue with the arrival of the entry at place j
-abbrev pub joined : Counted → Queue → ℕ → Queue
-joined s v j = arrive v (sizeAt s j) (deadlineAt s j)
+use Rattle.model.specs.Counted.{Counted, weightAt}
+use Rattle.model.specs.Queue.{Queue}
+use Rattle.entry_lanes.specs.Lanes.{joined}
 
 -- the weighted sum over the first n entries
 unfoldable pub sumTo : Counted → (Queue → Option ℕ) → Queue → ℕ → Option ℕ

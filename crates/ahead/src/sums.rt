@@ -8,8 +8,8 @@ ghost use Prim.Native.Nat.{_<_};
 ghost use Rattle.model.specs.Counted.{counted};
 ghost use Rattle.value.specs.Narrow.{width, valueOf};
 ghost use Rattle.rows.specs.Rows.{valueInRow, afterWith};
+ghost use Rattle.entry_lanes.specs.Lanes.{joined};
 ghost use Rattle.ahead.specs.Pass.{Given, Within, Stepped, sumLeft, stepped, riseOf};
-ghost use Rattle.ahead.specs.Sums.{joined};
 
 // What the row has for the queue with the arrival of the entry at a place, so many steps from the first queue of a block on, where every
 // arrival leads to a bearable queue. A lane has risen by `far` then, less what its entry lifts the last total but one in each step.

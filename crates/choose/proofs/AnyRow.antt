@@ -25,8 +25,8 @@ use Rattle.rows.specs.Rows.{RowAfter}
 use Rattle.rows.specs.Sizes.{Measured}
 use Rattle.rows.specs.declared.sizes.Sizes.{Sizes}
 use Rattle.rows.proofs.Rows.{after-says}
+use Rattle.speed_lanes.specs.Lanes.{SpeedTable}
 use Rattle.choose.specs.Choice.{costBy, leastBy, costAt, leastIn, byteOf}
-use Rattle.choose.specs.Lanes.{SpeedTable}
 use Rattle.choose.specs.Pass.{Given, LeftAll}
 use Rattle.choose.proofs.Choices.{least-same}
 

@@ -13,9 +13,9 @@ use Rattle.model.proofs.Tests.{holds-true}
 use Rattle.value.specs.Width.{Width, readAt}
 use Rattle.rows.specs.Rows.{valueInRow}
 use Rattle.rows.proofs.Rows.{none-in-row, read-in-row}
+use Rattle.speed_lanes.specs.Lanes.{afterOf, leadsOn}
+use Rattle.speed_lanes.proofs.Lanes.{leads-parts}
 use Rattle.choose.specs.Choice.{costBy, aheadIn}
-use Rattle.choose.specs.Lanes.{afterOf, leadsOn}
-use Rattle.choose.proofs.Lanes.{leads-parts}
 
 module _ (width : Width) (M D : ℕ) (ahead : List ℕ) (scale : Option ℕ) (w : Queue) (speed energy : ℕ) where
   -- none where it does not

@@ -1,4 +1,3 @@
-pub mod Lanes
 pub mod Costs
 pub mod Choices
 pub mod Passing

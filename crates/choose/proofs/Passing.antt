@@ -29,12 +29,12 @@ use Rattle.rows.specs.declared.sizes.Sizes.{Sizes}
 use Rattle.rows.proofs.Blocks.{block-none, block-more, blocks-none, blocks-more, blocks-whole}
 use Rattle.rows.proofs.Measures.{one-fewer, most-total}
 use Rattle.rows.proofs.Tables.{line-within}
+use Rattle.speed_lanes.specs.Lanes.{afterOf, leadsOn, slowestIn, laneOf, Lane}
+use Rattle.speed_lanes.proofs.Lanes.{leads-parts, leads-carries, leads-nowhere, lane-says}
 use Rattle.choose.specs.Choice.{costAt, leastIn, IsChoice}
-use Rattle.choose.specs.Lanes.{afterOf, leadsOn, slowestIn, laneOf, Lane}
 use Rattle.choose.specs.Pass.{Given, Within, valueLeft, byteLeft, Left, LeftWhere, LeftAll}
 use Rattle.choose.proofs.Choices.{least-small}
 use Rattle.choose.proofs.Costs.{cost-none, cost-some}
-use Rattle.choose.proofs.Lanes.{leads-parts, leads-carries, leads-nowhere, lane-says}
 
 module _ {width : Width} {s : Counted} {sizes : Sizes} {scale : Option ℕ} {lanes ahead : List ℕ}
     (given : Given width s sizes scale lanes ahead) where

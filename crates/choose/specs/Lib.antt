@@ -1,3 +1,2 @@
 pub mod Choice
-pub mod Lanes
 pub mod Pass

@@ -12,8 +12,8 @@ use Rattle.value.specs.Fills.{Fills, FillsWhere, numberAt}
 use Rattle.value.specs.Width.{Width, readAt, Below}
 use Rattle.rows.specs.Sizes.{Measured}
 use Rattle.rows.specs.declared.sizes.Sizes.{Sizes}
+use Rattle.speed_lanes.specs.Lanes.{SpeedTable}
 use Rattle.choose.specs.Choice.{costAt, leastIn, byteOf}
-use Rattle.choose.specs.Lanes.{SpeedTable}
 
 -- what the pass is given: a sheet whose fields are in range, its sizes and its table, a buffer of what is ahead, and a scale by which no
 -- cost reaches the limit of a value

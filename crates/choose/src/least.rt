@@ -9,8 +9,8 @@ ghost use Prim.Native.Nat.{_-_, _≤_, _<_};
 ghost use Rattle.model.specs.Counted.{counted};
 ghost use Rattle.queues.specs.Blocks.{queueWith, firstOf, numberIn};
 ghost use Rattle.value.specs.Narrow.{width, valueOf};
+ghost use Rattle.speed_lanes.specs.Lanes.{slowestIn};
 ghost use Rattle.choose.specs.Choice.{costAt, leastIn, IsChoice, IsBetter};
-ghost use Rattle.choose.specs.Lanes.{slowestIn};
 ghost use Rattle.choose.specs.Pass.{Given, Within};
 
 // The speed of a queue that has none.

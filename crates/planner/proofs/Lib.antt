@@ -1,6 +1,2 @@
-pub mod Fits
-pub mod FirstPass
-pub mod SecondPass
-pub mod Backward
 pub mod Outcomes
 pub mod Right

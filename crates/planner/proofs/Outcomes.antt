@@ -43,10 +43,6 @@ module _ (s : Counted) where
 
   -- places
 
-  -- of an accepted sheet: its queues and its slots are few enough for a place to be worked out
-  pub sizes-small : {sizes : Sizes} → sheetRefusal s ≡ 0 → Sized s sizes → (sizes .queues ≤ 65535) × (s .horizon ≤ 200)
-  sizes-small e sized = let a = accepted s e in (omega (arith, sized .queues-is, a .queues-high), a .ranged .horizon-high)
-
   -- the place that the code works out is the model's
   pub place-is : {sizes : Sizes} → Sized s sizes → (slot queue : ℕ) {place : ℕ} → place ≡ slot * sizes .queues + queue →
       place ≡ placeAt s slot queue

@@ -22,8 +22,8 @@ use Rattle.value.proofs.OnePlace.{read-is}
 use Rattle.value.specs.Narrow as narrow
 use Rattle.value.specs.Width.{Width, readAt}
 use Rattle.choose.specs.Choice.{byteOf}
-use Rattle.planner.specs.Passes.{valueWith, choiceWith, PlannedFrom}
-use Rattle.planner.proofs.FirstPass.{value-chosen}
+use Rattle.backward.specs.Passes.{valueWith, choiceWith, PlannedFrom}
+use Rattle.backward.proofs.FirstPass.{value-chosen}
 
 -- lists that are equal from n on, place by place
 drop-same : (n : ℕ) (l m : List ℕ) → length l ≡ length m → ((p : ℕ) → n ≤ p → getD l p 0 ≡ getD m p 0) → drop n l ≡ drop n m

@@ -1,5 +1,5 @@
 // The two calls: `plan` and `row`.
-use crate::slots::fill;
+use backward::fill;
 use model::Sheet;
 use queues::table;
 use rows::sizes_of;

@@ -1,10 +1,10 @@
 // The state and its three calls: `start`, `speed` and `advance`.
-use crate::look::is_entry;
-use crate::look::plan_byte;
 use crate::step::moved;
 use crate::tests::byte_right;
 use crate::tests::queue_right;
 use crate::tests::state_right;
+use lookups::is_entry;
+use lookups::plan_byte;
 use model::Sheet;
 use queues::table;
 use sheets::row_refusal;

@@ -1,6 +1,6 @@
 // What the calls test, each test with its number: 13 of a state, 16 of a plan byte.
-use crate::look::place_of;
 use crate::state::State;
+use lookups::place_of;
 use model::Sheet;
 use queues::bearable;
 use sheets::greatest_of;

@@ -11,9 +11,9 @@ use Rattle.value.specs.Narrow.{width}
 use Rattle.value.specs.Width.{readAt}
 use Rattle.value.proofs.Filling.{fewer-fit}
 use Rattle.rows.proofs.Measures.{blocks-few}
-use Rattle.ahead.specs.Pass.{stepped}
 use Rattle.rows.specs.Rows.{afterWith}
-use Rattle.ahead.specs.Sums.{joined}
+use Rattle.entry_lanes.specs.Lanes.{joined}
+use Rattle.ahead.specs.Pass.{stepped}
 use Rattle.ahead.proofs.Passing.{in-range, columns-room, most-before-small, lift-read, lift-small, line-room, line-lane, number-told, number-joined, value-joined}
 use Rattle.ahead.proofs.sums.value_on.Statement.{statement}
 use Rattle.ahead.proofs.sums.value_on.Tie as tie

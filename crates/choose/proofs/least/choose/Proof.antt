@@ -9,8 +9,8 @@ use Rattle.model.proofs.Tests.{first-within}
 use Rattle.queues.specs.Blocks.{queueWith, firstOf, numberIn}
 use Rattle.value.specs.Narrow.{width, valueOf}
 use Rattle.rows.proofs.Measures.{after-room}
+use Rattle.speed_lanes.specs.Lanes.{leadsOn, slowestIn}
 use Rattle.choose.specs.Choice.{costAt, leastTo, IsChoice}
-use Rattle.choose.specs.Lanes.{leadsOn, slowestIn}
 use Rattle.choose.proofs.Choices.{least-begun, least-more, least-whole}
 use Rattle.choose.proofs.Passing.{in-range, columns-room, speed-read, line-room, line-slowest, slower-none}
 use Rattle.choose.proofs.least.choose.Statement.{statement}

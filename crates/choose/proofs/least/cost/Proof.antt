@@ -12,8 +12,8 @@ use Rattle.value.specs.Narrow.{width, valueOf}
 use Rattle.value.specs.Width.{readAt, Below}
 use Rattle.value.proofs.Filling.{fewer-fit}
 use Rattle.rows.proofs.Measures.{after-room}
+use Rattle.speed_lanes.specs.Lanes.{laneOf}
 use Rattle.choose.specs.Choice.{costAt}
-use Rattle.choose.specs.Lanes.{laneOf}
 use Rattle.choose.proofs.Passing.{in-range, columns-room, most-before, most-before-small, speed-read, energy-read, speed-small, line-room, line-lowest, line-lane, number-low, cost-past, cost-there, found-low}
 use Rattle.choose.proofs.least.cost.Statement.{statement}
 use Rattle.choose.proofs.least.cost.Tie as tie

@@ -10,7 +10,8 @@ use Rattle.model.specs.Counted.{Counted, counted}
 use Rattle.model.specs.Plan.{planRefusal, valuesNeeded}
 use Rattle.model.specs.Refusal.{sheetRefusal}
 use Rattle.value.specs.Narrow.{width}
-use Rattle.planner.proofs.Outcomes.{refused-plan, filled-plan, sizes-small, place-is, first-within}
+use Rattle.backward.proofs.Backward.{sizes-small}
+use Rattle.planner.proofs.Outcomes.{refused-plan, filled-plan, place-is, first-within}
 use Rattle.planner.proofs.Right.{memory-filled}
 use Rattle.planner.proofs.calls.plan.Statement.{statement}
 use Rattle.planner.proofs.calls.plan.Tie as tie

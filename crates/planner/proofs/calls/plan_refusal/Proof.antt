@@ -9,7 +9,8 @@ use Rattle.model.specs.Counted.{counted}
 use Rattle.model.specs.Refusal.{sheetRefusal}
 use Rattle.sheets.proofs.Answers.{passed-by, failed-by}
 use Rattle.value.specs.Narrow.{width}
-use Rattle.planner.proofs.Outcomes.{sizes-small, place-is, needed-is}
+use Rattle.backward.proofs.Backward.{sizes-small}
+use Rattle.planner.proofs.Outcomes.{place-is, needed-is}
 use Rattle.planner.proofs.calls.plan_refusal.Statement.{statement}
 use Rattle.planner.proofs.calls.plan_refusal.Tie as tie
 

@@ -7,7 +7,8 @@ use lib.ListN.{length}
 use Rattle.model.proofs.Rooms.{row-accepted, row-none, row-past, row-part}
 use Rattle.model.specs.Counted.{counted}
 use Rattle.model.specs.Plan.{rowRefusal}
-use Rattle.planner.proofs.Outcomes.{sizes-small, place-is, row-room}
+use Rattle.backward.proofs.Backward.{sizes-small}
+use Rattle.planner.proofs.Outcomes.{place-is, row-room}
 use Rattle.planner.proofs.calls.row.Statement.{statement}
 use Rattle.planner.proofs.calls.row.Tie as tie
 

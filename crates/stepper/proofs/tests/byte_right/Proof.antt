@@ -9,7 +9,7 @@ use Rattle.model.proofs.Refusal.{ranged}
 use Rattle.model.proofs.Stepper.{wrong-byte, first-decides}
 use Rattle.model.specs.Counted.{counted, placeOfSpeed}
 use Rattle.queues.proofs.Places.{total-in}
-use Rattle.stepper.proofs.Looking.{on-sheet-place}
+use Rattle.lookups.proofs.Looking.{on-sheet-place}
 use Rattle.stepper.proofs.tests.byte_right.Statement.{statement}
 use Rattle.stepper.proofs.tests.byte_right.Tie as tie
 use Rattle.stepper.specs.Calls.{stateOf}

@@ -11,7 +11,7 @@ use Rattle.model.specs.Counted.{counted, onSheet}
 use Rattle.model.specs.Refusal.{fieldsRefusal}
 use Rattle.model.specs.Stepper.{Stepped, Told, planByte, speedRefusal, isEntry, moved}
 use Rattle.sheets.proofs.Answers.{passed-by, failed-by}
-use Rattle.stepper.proofs.Looking.{entry-small}
+use Rattle.lookups.proofs.Looking.{entry-small}
 use Rattle.stepper.proofs.Outcomes.{stepped-as, refused-gives, moved-advances}
 use Rattle.stepper.proofs.state.State.advance.Statement.{statement}
 use Rattle.stepper.proofs.state.State.advance.Tie as tie

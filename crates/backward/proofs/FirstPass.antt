@@ -1,0 +1,84 @@
+-- That the first pass, over the row of the next slot's values, works out what the recursion says is ahead of a queue after a slot. What is
+-- said of buffers is said over any width of a value.
+use Prim.Native.Nat.{ℕ, zero, suc, _<_}
+use mathlib.Core.Path.{_≡_, refl, sym, ap, _∙_, subst}
+use mathlib.Core.Bool.{Bool, true, false}
+use mathlib.Core.List.{List}
+use mathlib.Core.Option.{Option, none, some}
+use lib.Dec.{T}
+use Rattle.process.specs.Recursion.{only, worth}
+use Rattle.model.specs.Counted.{Counted, M}
+use Rattle.model.specs.Plan.{queueAt}
+use Rattle.model.specs.Queue.{Queue, bearable}
+use Rattle.model.specs.Refusal.{valueLimit}
+use Rattle.model.proofs.Recursion as recursion
+use Rattle.model.proofs.Refusal.{Accepted, accepted, fields-right, N-is}
+use Rattle.value.specs.Fills.{Fills}
+use Rattle.value.specs.Width.{Width, readAt}
+use Rattle.value.proofs.Filling.{fills-same}
+use Rattle.rows.specs.Rows.{afterWith, Row, RowOf}
+use Rattle.rows.specs.Sizes.{Sized}
+use Rattle.rows.specs.declared.sizes.Sizes.{Sizes}
+use Rattle.rows.proofs.Measures.{sized-same, measured}
+use Rattle.entry_lanes.specs.Lanes.{EntryTable}
+use Rattle.ahead.specs.Pass.{Given, sumLeft}
+use Rattle.ahead.proofs.AnyRow.{given-for, left-for}
+use Rattle.backward.specs.Passes.{valueWith, choiceWith, aheadTo, aheadOf, queueAfter, ValueRow, Ready}
+use Rattle.backward.proofs.Fits.{most, value-upto, ahead-fits}
+
+-- what a queue is worth
+
+-- a test that passes lets a value through
+only-passed : (b : Bool) (r : Option ℕ) → T b → only b r ≡ r
+only-passed true r t = refl
+only-passed false r t = absurd t
+
+module _ (s : Counted) where
+  -- with no slot left a bearable queue has a value, 0
+  pub value-last : (w : Queue) → T (bearable (M s) w) → valueWith s 0 w ≡ some 0
+  unfolding valueWith
+  value-last w t = recursion.value-last s w ∙ only-passed (bearable (M s) w) (some 0) t
+
+  -- else its value is what the least over the speeds is worth
+  pub value-chosen : (k : ℕ) (w : Queue) → T (bearable (M s) w) → valueWith s (suc k) w ≡ worth (choiceWith s k w)
+  unfolding valueWith choiceWith
+  value-chosen k w t = recursion.value-chosen s k w ∙ only-passed (bearable (M s) w) (worth (choiceWith s k w)) t
+
+  -- a queue that is not bearable has no value
+  pub not-bearable-none : (k : ℕ) (w : Queue) → bearable (M s) w ≡ false → valueWith s k w ≡ none
+  unfolding valueWith choiceWith
+  not-bearable-none zero w e = recursion.value-last s w ∙ ap (λ (b : Bool). only b (some 0)) e
+  not-bearable-none (suc k) w e = recursion.value-chosen s k w ∙ ap (λ (b : Bool). only b (worth (choiceWith s k w))) e
+
+-- what the first pass is given, and what it leaves
+
+module _ (width : Width) (roomy : valueLimit < width .limit) {counts : List ℕ} {s : Counted} {sizes : Sizes} {left : ℕ} {scale : Option ℕ}
+    (ready : Ready counts s sizes left scale) {next : ℕ} {values : List ℕ} (row : ValueRow width s left next values) where
+  abbrev is-accepted : Accepted s
+  is-accepted = accepted s (ready .prepared .accepted)
+
+  abbrev sized : Sized s sizes
+  sized = ready .prepared .sized
+
+  -- the row is one of the values
+  value-row : RowOf width (sizes .largest) (sizes .bound) (valueWith s left) next values
+  value-row =
+      subst (λ (p : ℕ × ℕ). RowOf width (p .0) (p .1) (valueWith s left) next values) (sym (sized-same sized (λ m D. (m, D))))
+      (record {
+        stands = subst (λ (n : ℕ). Row width (λ i. valueWith s left (queueAt s i)) next n values) (N-is s) row;
+        strict = not-bearable-none s left;
+      })
+
+  pub first-given : {lanes : List ℕ} → EntryTable (sizes .largest) (sizes .bound) s lanes → Given width s sizes lanes next values
+  first-given table =
+      given-for width s (measured s sizes is-accepted sized) (valueWith s left) value-row (most s left)
+      (fields-right s (ready .prepared .accepted)) table (value-upto s left)
+      (ahead-fits s is-accepted width roomy left (ready .in-plan .left-low))
+
+  pub first-left : {ahead₀ ahead : List ℕ} →
+      Fills (width .places) (readAt width) (λ i. sumLeft width s sizes next values i (s .jobCount)) 0 (sizes .after) ahead₀ ahead →
+      Fills (width .places) (readAt width) (λ i. aheadOf s left (queueAfter s i)) 0 (sizes .after) ahead₀ ahead
+  unfolding aheadTo
+  first-left fill =
+      fills-same (width .places) (readAt width) (λ i h. sized-same sized (λ m D. aheadOf s left (afterWith m D i)))
+      (left-for width s (measured s sizes is-accepted sized) (valueWith s left) value-row fill)

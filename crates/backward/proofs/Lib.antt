@@ -1,0 +1,4 @@
+pub mod Fits
+pub mod FirstPass
+pub mod SecondPass
+pub mod Backward

@@ -1,0 +1,27 @@
+-- `fill_table` meets its contract: the columns, and behind them the lines, which leave the columns as they are.
+use borrow.Author.Needs.{needs}
+use Rattle.model.specs.Counted.{counted}
+use Rattle.model.proofs.Refusal.{ranged}
+use Rattle.rows.proofs.Tables.{table-whole}
+use Rattle.entry_lanes.proofs.table.fill_table.Statement.{statement}
+use Rattle.entry_lanes.proofs.table.fill_table.Tie as tie
+
+fill-entries-requires : tie.Need-fill-entries-requires
+fill-entries-requires c κs = search needs
+
+fill-lines-requires : tie.Need-fill-lines-requires
+fill-lines-requires c κs = search needs
+
+same-length : tie.Need-same-length
+same-length c = search needs
+
+returns : tie.Need-returns
+returns c =
+    let start = c .before .before .before .before .before .before .before .before .before in
+    let s = counted (start .args .sheet) in
+    table-whole 32 (s .jobCount) (ranged s (start .pre .2) .jobs-high) (start .pre .1 .blocks-is)
+    (c .before .before .before .before .before .before .fill-entries .ensures) (c .before .before .fill-lines .ensures)
+
+pub fill-table-spec : {M : Type 1} → statement M
+fill-table-spec =
+    tie.close (tie.spec fill-entries-requires fill-lines-requires same-length returns)

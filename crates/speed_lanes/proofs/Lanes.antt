@@ -1,0 +1,194 @@
+-- Laws of the lanes of the speeds (specs/Lanes.antt). Where a speed leads on, every faster one does, and in every queue that is nowhere
+-- longer; so a speed that does not lead on from the first queue of a block does not from any. And along a block the queue after a slot is
+-- found from the first one.
+use Prim.Native.Nat.{ℕ, zero, suc, min, max, _+_, _-_, _*_, _≤_, _<_}
+use mathlib.Core.Path.{_≡_, refl, sym, ap, _∙_, subst}
+use mathlib.Core.Bool.{Bool, false, cond, _&&_}
+use mathlib.Core.List.{List}
+use mathlib.Core.Logic.{_⊎_, inl, inr}
+use native.Mathlib.Nat.{not-suc-le-zero, eq-or-lt-of-le, le-refl}
+use native.Mathlib.Omega.{arith}
+use borrow.Author.Tests.{le-leb, lt-leb}
+use lib.Dec.{T, leb, leb→le, le→leb}
+use lib.ListN.{length}
+use Rattle.model.specs.Queue.{Queue, total, NeverFalls, NoLonger, queueIn, placesOf, bearable, numberOf, run}
+use Rattle.model.proofs.Longer.{no-longer-by, run-never-falls, bearable-carries}
+use Rattle.model.proofs.Queues.{length-run, total-run, length-in, bearable-at}
+use Rattle.model.proofs.Tests.{and-left, and-right, and-both, same-test, holds-true}
+use Rattle.queues.specs.Blocks.{Alike}
+use Rattle.queues.proofs.Blocks.{number-last, bearable-with}
+use Rattle.queues.proofs.Places.{total-in, positions-in}
+use Rattle.rows.proofs.Measures.{one-fewer}
+use Rattle.speed_lanes.specs.Lanes.{afterOf, leadsOn, laneOf, Lane}
+
+-- the queue after a slot
+
+length-after : (d : ℕ) (w : Queue) (s : ℕ) → length w ≡ suc d → length (afterOf (suc d) w s) ≡ d
+length-after d w s e = length-in d (run w s) (omega (arith, length-run w s))
+
+-- it stands in the places that `after` answers
+pub after-places : (D : ℕ) (places : List ℕ) (s : ℕ) {left : List ℕ} → 1 ≤ D → D ≤ 6 → length places ≡ 6 →
+    left ≡ placesOf (run (queueIn D places) s) → queueIn (D - 1) left ≡ afterOf D (queueIn D places) s
+after-places D places s low few six e =
+    ap (queueIn (D - 1)) e ∙
+    positions-in (D - 1) (run (queueIn D places) s) (omega arith)
+    (omega (arith, length-run (queueIn D places) s, length-in D places (omega arith))) ∙
+    ap (λ (n : ℕ). queueIn n (run (queueIn D places) s)) (one-fewer D)
+
+-- its totals are those of the next positions, less the speed
+total-after : (d : ℕ) (w : Queue) (s u : ℕ) → length w ≡ suc d → 1 ≤ u → u ≤ d → total (afterOf (suc d) w s) u ≡ total w (suc u) - s
+total-after d w s u e low h =
+    let next : min (suc u) (length w) ≡ suc u = omega arith in
+    total-in d (run w s) u h ∙ total-run w s u low (omega arith) ∙ ap (λ (k : ℕ). total w k - s) next
+
+-- it never falls
+after-never-falls : (d : ℕ) (w : Queue) (s : ℕ) → length w ≡ suc d → NeverFalls w → NeverFalls (afterOf (suc d) w s)
+after-never-falls d w s e f u h =
+    let l : u < d = omega (arith, length-after d w s e) in
+    omega (
+      arith,
+      total-in d (run w s) u (omega arith),
+      total-in d (run w s) (suc u) l,
+      run-never-falls w s f u (omega (arith, length-run w s)),
+    )
+
+-- after a faster slot of a queue that is nowhere longer it is nowhere longer
+after-no-longer : (d : ℕ) (v w : Queue) (s s′ : ℕ) → length v ≡ suc d → length w ≡ suc d → NoLonger v w → s ≤ s′ →
+    NoLonger (afterOf (suc d) v s′) (afterOf (suc d) w s)
+after-no-longer d v w s s′ e f n h =
+    no-longer-by (afterOf (suc d) v s′) (afterOf (suc d) w s) (length-after d v s′ e ∙ sym (length-after d w s f))
+    (λ i k. let l : suc i ≤ d = omega (arith, length-after d v s′ e) in
+    omega (
+      arith,
+      total-after d v s′ (suc i) e (omega arith) l,
+      total-after d w s (suc i) f (omega arith) l,
+      n (suc (suc i)),
+    ))
+
+-- a speed that leads on
+
+module _ (M D : ℕ) (w : Queue) (s : ℕ) where
+  -- it is at least w(1), and the queue after the slot is bearable
+  pub leads-parts : T (leadsOn M D w s) → (total w 1 ≤ s) × T (bearable M (afterOf D w s))
+  leads-parts t =
+      let a = leb (total w 1) s in
+      let b = bearable M (afterOf D w s) in
+      (leb→le (total w 1) s (and-left a b t), and-right a b t)
+
+  leads-both : total w 1 ≤ s → T (bearable M (afterOf D w s)) → T (leadsOn M D w s)
+  leads-both h t = and-both (leb (total w 1) s) (bearable M (afterOf D w s)) (le→leb (total w 1) s h) t
+
+  -- a speed below w(1) does not
+  pub leads-slow : s < total w 1 → leadsOn M D w s ≡ false
+  leads-slow h = ap (λ (b : Bool). b && bearable M (afterOf D w s)) (lt-leb (total w 1) s h)
+
+  -- any other where the queue after the slot is bearable
+  pub leads-fast : total w 1 ≤ s → leadsOn M D w s ≡ bearable M (afterOf D w s)
+  leads-fast h = ap (λ (b : Bool). b && bearable M (afterOf D w s)) (le-leb (total w 1) s h)
+
+-- it does in each queue that is nowhere longer, and so does each faster one
+pub leads-carries : (M D : ℕ) (v w : Queue) (s s′ : ℕ) → 1 ≤ D → length v ≡ D → length w ≡ D → NeverFalls v → NoLonger v w → s ≤ s′ →
+    T (leadsOn M D w s) → T (leadsOn M D v s′)
+leads-carries M zero v w s s′ low e f never n h t = absurd (not-suc-le-zero low)
+leads-carries M (suc d) v w s s′ low e f never n h t =
+    let parts = leads-parts M (suc d) w s t in
+    leads-both M (suc d) v s′ (omega (arith, parts .0, n 1))
+    (bearable-carries M M (afterOf (suc d) v s′) (afterOf (suc d) w s) (le-refl M)
+    (length-after d v s′ e ∙ sym (length-after d w s f)) (after-never-falls d v s′ e never) (after-no-longer d v w s s′ e f n h)
+    (parts .1))
+
+-- along a block
+
+-- the first queue is nowhere longer than a later one
+alike-no-longer : (D : ℕ) (v w : Queue) → Alike D v w → total v D ≤ total w D → NoLonger v w
+alike-no-longer D v w a h = no-longer-by v w (a .long ∙ sym (a .long-too)) (λ i l. each i (eq-or-lt-of-le (inside i l)))
+  where
+    inside : (i : ℕ) → i < length v → suc i ≤ D
+    inside i l = omega (arith, a .long)
+
+    each : (i : ℕ) → (suc i ≡ D) ⊎ (suc i < D) → total v (suc i) ≤ total w (suc i)
+    each i (inl q) = omega (arith, ap (total v) q, ap (total w) q)
+    each i (inr l) = omega (arith, a .same (suc i) l)
+
+-- a speed that does not lead on from the first queue does not from a later one
+pub leads-nowhere : (M D : ℕ) (v w : Queue) (s : ℕ) → 1 ≤ D → Alike D v w → T (bearable M v) → total v D ≤ total w D →
+    leadsOn M D v s ≡ false → leadsOn M D w s ≡ false
+leads-nowhere M D v w s low a tv h e =
+    same-test (leadsOn M D w s) false
+    (λ t. subst T e
+    (leads-carries M D v w s s low (a .long) (a .long-too) (λ u l. bearable-at M v tv u l .0) (alike-no-longer D v w a h) (le-refl s) t))
+    (λ f. absurd f)
+
+-- after a slot two queues of a block are two of a block
+after-alike : (d : ℕ) (v w : Queue) (s : ℕ) → Alike (suc d) v w → Alike d (afterOf (suc d) v s) (afterOf (suc d) w s)
+after-alike d v w s a =
+    record { long = length-after d v s (a .long); long-too = length-after d w s (a .long-too); same = each }
+  where
+    each : (u : ℕ) → u < d → total (afterOf (suc d) v s) u ≡ total (afterOf (suc d) w s) u
+    each zero h = refl
+    each (suc i) h =
+        omega (
+          arith,
+          total-after d v s (suc i) (a .long) (omega arith) (omega arith),
+          total-after d w s (suc i) (a .long-too) (omega arith) (omega arith),
+          a .same (suc (suc i)) (omega arith),
+        )
+
+-- the number of the queue after the slot, where the speed leads on
+lane-there : (M D : ℕ) (v : Queue) (s : ℕ) → T (leadsOn M D v s) → laneOf M D v s ≡ numberOf M (afterOf D v s)
+lane-there M D v s t = ap (λ (b : Bool). cond b (numberOf M (afterOf D v s)) 0) (holds-true (leadsOn M D v s) t)
+
+-- a speed that leads on from the first queue has a lane
+pub lane-says : (M D : ℕ) (v w : Queue) (s : ℕ) → 1 ≤ D → Alike D v w → total v D ≤ total w D → T (leadsOn M D v s) →
+    Lane M D w s (laneOf M D v s) (max s (total v D))
+lane-says M zero v w s low a h t = absurd (not-suc-le-zero low)
+lane-says M (suc zero) v w s low a h t =
+    record {
+      goes = λ l. (leads-both M 1 w s (omega arith) there, ap (numberOf M) same ∙ omega (arith, lane-there M 1 v s t));
+      ends = λ l. same-test (leadsOn M 1 w s) false (λ k. omega (arith, leads-parts M 1 w s k .0)) (λ f. absurd f);
+    }
+  where
+    same : afterOf 1 w s ≡ afterOf 1 v s
+    same = refl
+
+    there : T (bearable M (afterOf 1 w s))
+    there = leads-parts M 1 v s t .1
+lane-says M (suc (suc d)) v w s low a h t =
+    record {
+      goes = λ l.
+          let tw = there l in (
+            leads-both M (suc (suc d)) w s (omega (arith, leads-parts M (suc (suc d)) v s t .0, a .same 1 (omega arith))) tw,
+            omega (
+              arith,
+              number-last M d (afterOf (suc (suc d)) v s) (afterOf (suc (suc d)) w s) next (leads-parts M (suc (suc d)) v s t .1) tw longer,
+              lane-there M (suc (suc d)) v s t,
+              first,
+              last,
+            ),
+          );
+      ends = λ l.
+          same-test (leadsOn M (suc (suc d)) w s) false
+          (λ k. omega (
+            arith,
+            last,
+            bearable-at M (afterOf (suc (suc d)) w s) (leads-parts M (suc (suc d)) w s k .1) d (omega (arith, next .long-too)) .1,
+          ))
+          (λ f. absurd f);
+    }
+  where
+    next : Alike (suc d) (afterOf (suc (suc d)) v s) (afterOf (suc (suc d)) w s)
+    next = after-alike (suc d) v w s a
+
+    first : total (afterOf (suc (suc d)) v s) (suc d) ≡ total v (suc (suc d)) - s
+    first = total-after (suc d) v s (suc d) (a .long) (omega arith) (omega arith)
+
+    last : total (afterOf (suc (suc d)) w s) (suc d) ≡ total w (suc (suc d)) - s
+    last = total-after (suc d) w s (suc d) (a .long-too) (omega arith) (omega arith)
+
+    longer : total (afterOf (suc (suc d)) v s) (suc d) ≤ total (afterOf (suc (suc d)) w s) (suc d)
+    longer = omega (arith, first, last)
+
+    there : total w (suc (suc d)) ≤ suc d * M + s → T (bearable M (afterOf (suc (suc d)) w s))
+    there l =
+        bearable-with M (suc d) (afterOf (suc (suc d)) v s) (afterOf (suc (suc d)) w s) next (leads-parts M (suc (suc d)) v s t .1) longer
+        (omega (arith, last))
