@@ -28,7 +28,7 @@ fn print_call(name: &[u8], number: u32) {
 
 // `read` of some bytes.
 fn read_bytes(memory: Memory, bytes: &[u8]) -> Memory {
-    let answer = codec::read(bytes);
+    let answer = reader::read(bytes);
     let sheet = answer.sheet;
     print_call(b"read ", answer.number);
     print_words(b", sheet");
@@ -73,7 +73,7 @@ pub fn write(memory: Memory, bytes: &mut [u8], line: &[u8], cursor: Cursor) -> M
     if end.problem != RIGHT {
         return not_understood(memory, end);
     }
-    let answer = codec::write(memory.sheet, bytes);
+    let answer = writer::write(memory.sheet, bytes);
     print_call(b"write ", answer.number);
     print_field(b", length ", answer.length as u64);
     print_end();
