@@ -10,7 +10,7 @@ use lib.Dec.{T, leb}
 use Rattle.model.specs.Counted.{Counted, weightAt, sizeAt, deadlineAt}
 use Rattle.model.specs.Queue.{Queue, total, bearable, queueCount, numberOf}
 use Rattle.queues.specs.Blocks.{firstOf, startOf, lowestOf, risen}
-use Rattle.queues.specs.Slot.{kept}
+use Rattle.slot.specs.Slot.{kept}
 use Rattle.rows.specs.Tables.{lineOf, Table}
 use Rattle.ahead.specs.Sums.{joined}
 

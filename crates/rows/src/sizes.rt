@@ -6,7 +6,7 @@ ghost use mathlib.Core.Path.{_≡_};
 ghost use Prim.Native.Nat.{pred};
 ghost use Rattle.model.specs.Counted.{counted};
 ghost use Rattle.model.specs.Refusal.{sheetRefusal};
-ghost use Rattle.queues.specs.Counts.{HoldsCounts};
+ghost use Rattle.counts.specs.Counts.{HoldsCounts};
 ghost use Rattle.rows.specs.Sizes.{Sized};
 
 // The largest speed M, the deadline bound D, the number of queues N, and how many queues there are after a slot, before an arrival: those

@@ -7,7 +7,7 @@ ghost use Prim.Native.Nat.{_*_, _^_, _≤_, max};
 ghost use lib.Dec.{leb};
 ghost use Rattle.model.specs.Counted.{counted, W, M, greatestEnergy, G};
 ghost use Rattle.model.specs.Refusal.{fieldsRefusal, limitsRefusal, N};
-ghost use Rattle.queues.specs.Counts.{HoldsCounts};
+ghost use Rattle.counts.specs.Counts.{HoldsCounts};
 
 // What number 9 holds T times G times W to the power T to, which no value passes: 2^63 - 1.
 const VALUE_LIMIT: u64 = 9223372036854775807;

@@ -11,7 +11,7 @@ ghost use mathlib.Core.Path.{_≡_};
 ghost use Prim.Native.Nat.{_≤_, _<_};
 ghost use Rattle.model.specs.Counted.{counted};
 ghost use Rattle.model.specs.Refusal.{speedRefusalAt, jobRefusalAt, speedsRefusal, jobsRefusal, fieldsRefusal, sheetRefusal};
-ghost use Rattle.queues.specs.Counts.{HoldsCounts};
+ghost use Rattle.counts.specs.Counts.{HoldsCounts};
 
 // The number of the speed at a place.
 fn refusal_at_speed(sheet: Sheet, place: u32) -> u32

@@ -6,7 +6,7 @@ ghost use mathlib.Core.Path.{_≡_};
 ghost use Prim.Native.Nat.{_+_, _*_, _≤_};
 ghost use Rattle.model.specs.Counted.{counted};
 ghost use Rattle.model.specs.Plan.{rowRefusal};
-ghost use Rattle.queues.specs.Counts.{HoldsCounts};
+ghost use Rattle.counts.specs.Counts.{HoldsCounts};
 
 // The place of a slot and a queue, in the values and in the plan: each row has as many places as there are queues.
 pub fn place(queues: usize, slot: u32, queue: usize) -> usize

@@ -14,7 +14,7 @@ ghost use Rattle.model.specs.Counted.{counted, placeOfSpeed};
 ghost use Rattle.model.specs.Plan.{rowRefusal};
 ghost use Rattle.model.specs.Refusal.{fieldsRefusal};
 ghost use Rattle.model.specs.Stepper.{queueRight, planByte, isEntry};
-ghost use Rattle.queues.specs.Counts.{HoldsCounts};
+ghost use Rattle.counts.specs.Counts.{HoldsCounts};
 ghost use Rattle.stepper.specs.Parts.{stateAt};
 
 // The plan byte at a slot and the number of a queue.

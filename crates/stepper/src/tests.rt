@@ -2,8 +2,8 @@
 use crate::look::place_of;
 use crate::state::State;
 use model::Sheet;
-use queues::bearable;
 use sheets::greatest_of;
+use slot::bearable;
 ghost use mathlib.Core.Path.{_≡_};
 ghost use Rattle.model.specs.Counted.{counted};
 ghost use Rattle.model.specs.Refusal.{fieldsRefusal};
