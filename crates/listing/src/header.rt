@@ -2,8 +2,8 @@
 use crate::decimal::decimal_length;
 use crate::decimal::put_decimal;
 use crate::decimal::put_text;
+use limits::weights;
 use model::Sheet;
-use sheets::weights;
 ghost use mathlib.Core.Path.{_≡_};
 ghost use Prim.Native.Nat.{_+_, _≤_};
 ghost use lib.ListN.{length};

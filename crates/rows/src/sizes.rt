@@ -1,7 +1,7 @@
 // What is worked out once for a sheet.
+use limits::greatest_of;
 use model::Sheet;
 use queues::queue_count;
-use sheets::greatest_of;
 ghost use mathlib.Core.Path.{_≡_};
 ghost use Prim.Native.Nat.{pred};
 ghost use Rattle.model.specs.Counted.{counted};

@@ -1,6 +1,6 @@
 // Where a slot and a queue stand in a plan, and the test that the row call and the stepper make first: 4 to 10, then 11.
-use crate::limits::queues_of;
 use crate::refusal::sheet_refusal;
+use limits::queues_of;
 use model::Sheet;
 ghost use mathlib.Core.Path.{_≡_};
 ghost use Prim.Native.Nat.{_+_, _*_, _≤_};

@@ -2,8 +2,8 @@
 use crate::look::place_of;
 use crate::state::State;
 use crate::state::Stepped;
+use limits::greatest_of;
 use model::Sheet;
-use sheets::greatest_of;
 use slot::after;
 use slot::arrive;
 use slot::finishable;

@@ -1,8 +1,8 @@
 // What the calls test, each test with its number: 13 of a state, 16 of a plan byte.
 use crate::look::place_of;
 use crate::state::State;
+use limits::greatest_of;
 use model::Sheet;
-use sheets::greatest_of;
 use slot::bearable;
 ghost use mathlib.Core.Path.{_≡_};
 ghost use Rattle.model.specs.Counted.{counted};

@@ -9,7 +9,7 @@ use Rattle.model.specs.Queue.{total, queueIn, arrive}
 use Rattle.model.specs.declared.Job.{Job}
 use Rattle.model.proofs.Refusal.{Ranged, ranged}
 use Rattle.slot.proofs.Places.{total-in}
-use Rattle.sheets.proofs.Places.{job-counts}
+use Rattle.limits.proofs.Places.{job-counts}
 use Rattle.rows.proofs.Measures.{most-total}
 use Rattle.ahead.specs.Lanes.{stepsOf, stepsTo}
 use Rattle.ahead.proofs.Adding.{steps-begun, steps-more}

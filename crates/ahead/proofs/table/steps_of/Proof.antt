@@ -10,7 +10,7 @@ use lib.ListN.{length}
 use Rattle.model.specs.Queue.{total, queueIn, bearable}
 use Rattle.model.proofs.Queues.{length-in}
 use Rattle.slot.proofs.Places.{total-in}
-use Rattle.sheets.proofs.Answers.{passed-by, failed-by}
+use Rattle.ranges.proofs.Answers.{passed-by, failed-by}
 use Rattle.rows.proofs.Measures.{most-total, one-fewer}
 use Rattle.ahead.proofs.Firsts.{most-fewer, last-held, before-held}
 use Rattle.ahead.proofs.Lanes.{steps-told}
