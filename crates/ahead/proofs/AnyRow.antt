@@ -19,7 +19,7 @@ use Rattle.model.proofs.Queues.{length-arrive, listed-bearable}
 use Rattle.model.proofs.Refusal.{W-is}
 use Rattle.model.proofs.Tests.{same-test}
 use Rattle.queues.specs.Blocks.{queueWith}
-use Rattle.queues.proofs.Slots.{length-kept, arrive-not-bearable}
+use Rattle.slot.proofs.Slots.{length-kept, arrive-not-bearable}
 use Rattle.value.specs.Fills.{Fills}
 use Rattle.value.specs.Width.{Width, readAt, Below}
 use Rattle.value.proofs.Decoding.{below-limit}

@@ -15,9 +15,9 @@ use Rattle.model.proofs.Queues.{length-arrive, listed-bearable, number-below}
 use Rattle.model.proofs.Refusal.{Ranged, ranged}
 use Rattle.model.proofs.Tests.{holds-true}
 use Rattle.queues.specs.Blocks.{queueWith, firstOf, startOf, lowestOf, lastOf, InBlock, InBlocks, risen}
-use Rattle.queues.specs.Slot.{kept}
+use Rattle.slot.specs.Slot.{kept}
 use Rattle.queues.proofs.Blocks.{block-place, risen-upto}
-use Rattle.queues.proofs.Slots.{length-kept, last-kept}
+use Rattle.slot.proofs.Slots.{length-kept, last-kept}
 use Rattle.value.specs.Fills.{Fills, FillsWhere}
 use Rattle.value.specs.Width.{Width, readAt}
 use Rattle.value.proofs.Filling.{read-local}

@@ -10,7 +10,7 @@ use Rattle.model.specs.Counted.{Counted, weightAt, W, M}
 use Rattle.model.specs.Plan.{processOf, queueAt, placeAt, valuesNeeded, planNeeded}
 use Rattle.model.specs.Queue.{Queue, queueCount}
 use Rattle.model.specs.Refusal.{N, sheetRefusal}
-use Rattle.queues.specs.Counts.{HoldsCounts}
+use Rattle.counts.specs.Counts.{HoldsCounts}
 use Rattle.value.specs.Width.{Width, readAt}
 use Rattle.value.specs.Fills.{Fills, numberAt}
 use Rattle.rows.specs.Rows.{Row, afterWith}

@@ -1,8 +1,8 @@
 // All the rows: the end row, and then slot after slot from the last one back, each from the row of the next.
+use limits::weights;
 use model::Sheet;
 use rows::Sizes;
 use sheets::place;
-use sheets::weights;
 use value::Value;
 ghost use mathlib.Core.Path.{_≡_};
 ghost use mathlib.Core.Option.{some};

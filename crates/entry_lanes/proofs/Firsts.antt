@@ -11,10 +11,10 @@ use Rattle.model.specs.Queue.{Queue, total, queueIn, placesOf, bearable, queueC
 use Rattle.model.proofs.Queues.{in-first-places, length-in, length-arrive, bearable-all, bearable-upto, listed-bearable}
 use Rattle.queues.specs.Blocks.{queueWith, firstOf, lowestOf}
 use Rattle.queues.specs.Order.{Ranges, Numbered}
-use Rattle.queues.specs.Slot.{Small, kept}
+use Rattle.slot.specs.Slot.{Small, kept}
 use Rattle.queues.proofs.Blocks.{first-queue}
-use Rattle.queues.proofs.Places.{positions-in, total-in}
-use Rattle.queues.proofs.Slots.{length-kept, last-kept, bearable-kept, bearable-small}
+use Rattle.slot.proofs.Places.{positions-in, total-in}
+use Rattle.slot.proofs.Slots.{length-kept, last-kept, bearable-kept, bearable-small}
 use Rattle.rows.proofs.Kept.{kept-places, last-in}
 use Rattle.rows.proofs.Measures.{ranges-fewer, one-fewer}
 use Rattle.entry_lanes.specs.Lanes.{firstAfter}

@@ -17,9 +17,9 @@ use Rattle.model.proofs.Longer.{no-longer-by, arrive-never-falls, bearable-carr
 use Rattle.model.proofs.Queues.{length-arrive, total-arrive, bearable-at, bearable-all, listed-bearable}
 use Rattle.model.proofs.Tests.{same-test, holds-true}
 use Rattle.queues.specs.Blocks.{queueWith, firstOf, startOf, lowestOf, Alike, Shifted, risen}
-use Rattle.queues.specs.Slot.{kept}
+use Rattle.slot.specs.Slot.{kept}
 use Rattle.queues.proofs.Blocks.{number-shift, risen-none, risen-less, block-place, block-alike, first-queue}
-use Rattle.queues.proofs.Slots.{length-kept, total-kept, last-kept, bearable-kept}
+use Rattle.slot.proofs.Slots.{length-kept, total-kept, last-kept, bearable-kept}
 use Rattle.rows.specs.Rows.{afterWith}
 use Rattle.entry_lanes.specs.Lanes.{firstAfter, joined, liftOf, stepsOf, stepsTo, laneOf, Lane}
 use Rattle.entry_lanes.proofs.Firsts.{no-position}

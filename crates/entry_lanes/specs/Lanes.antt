@@ -10,7 +10,7 @@ use lib.Dec.{T, leb}
 use Rattle.model.specs.Counted.{Counted, weightAt, sizeAt, deadlineAt}
 use Rattle.model.specs.Queue.{Queue, total, bearable, queueCount, numberOf, arrive}
 use Rattle.queues.specs.Blocks.{firstOf, startOf, lowestOf, risen}
-use Rattle.queues.specs.Slot.{kept}
+use Rattle.slot.specs.Slot.{kept}
 use Rattle.rows.specs.Tables.{lineOf, Table}
 
 -- the first queue after a slot of block b

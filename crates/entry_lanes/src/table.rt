@@ -3,23 +3,23 @@
 // leads to a bearable queue, and for each entry the number of the first queue with its arrival.
 use model::Job;
 use model::Sheet;
-use queues::arrive;
-use queues::finishable;
 use queues::number;
-use queues::total;
 use rows::Sizes;
 use rows::first_queue;
 use rows::line_at;
 use rows::put_head;
 use rows::put_pair;
+use slot::arrive;
+use slot::finishable;
+use slot::total;
 ghost use mathlib.Core.Path.{_≡_};
 ghost use Prim.Native.Nat.{pred, min, _+_, _*_, _≤_, _<_};
 ghost use lib.ListN.{length};
 ghost use Rattle.model.specs.Counted.{counted, weightAt, sizeAt, deadlineAt};
 ghost use Rattle.model.specs.Queue.{total, queueIn, placesOf};
 ghost use Rattle.model.specs.Refusal.{fieldsRefusal};
-ghost use Rattle.queues.specs.Counts.{HoldsCounts};
-ghost use Rattle.queues.specs.Slot.{Small};
+ghost use Rattle.counts.specs.Counts.{HoldsCounts};
+ghost use Rattle.slot.specs.Slot.{Small};
 ghost use Rattle.value.specs.Fills.{Fills, numberAt};
 ghost use Rattle.rows.specs.Sizes.{Measured};
 ghost use Rattle.rows.specs.Tables.{lineAt, Columns, LinesPut};

@@ -2,8 +2,8 @@
 use decimals::decimal_length;
 use decimals::put_decimal;
 use decimals::put_text;
+use limits::weights;
 use model::Sheet;
-use sheets::weights;
 ghost use mathlib.Core.Path.{_≡_};
 ghost use Prim.Native.Nat.{_+_, _≤_};
 ghost use lib.ListN.{length};

@@ -15,7 +15,7 @@ use Rattle.model.specs.Tests.{firstPlace, anywhere}
 use Rattle.model.specs.declared.Job.{Job}
 use Rattle.model.specs.declared.Sheet.{Sheet}
 use Rattle.model.specs.declared.Speed.{Speed}
-use Rattle.sheets.proofs.Places.{speed-counts, job-counts}
+use Rattle.limits.proofs.Places.{speed-counts, job-counts}
 
 module _ (s : Sheet) where
   -- a speed on the sheet

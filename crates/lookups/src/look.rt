@@ -1,10 +1,10 @@
 // What is looked up: the plan byte of a state, a speed on the sheet, and an arrival on the sheet.
+use limits::greatest_of;
+use limits::queues_of;
 use model::Job;
 use model::Sheet;
 use queues::number;
-use sheets::greatest_of;
 use sheets::place;
-use sheets::queues_of;
 ghost use mathlib.Core.Path.{_≡_};
 ghost use Prim.Native.Nat.{_<_};
 ghost use mathlib.Core.Bool.{_&&_};
@@ -14,7 +14,7 @@ ghost use Rattle.model.specs.Counted.{counted, placeOfSpeed};
 ghost use Rattle.model.specs.Plan.{rowRefusal};
 ghost use Rattle.model.specs.Refusal.{fieldsRefusal};
 ghost use Rattle.model.specs.Stepper.{queueRight, planByte, isEntry};
-ghost use Rattle.queues.specs.Counts.{HoldsCounts};
+ghost use Rattle.counts.specs.Counts.{HoldsCounts};
 ghost use Rattle.lookups.specs.Parts.{stateAt};
 
 // The plan byte at a slot and the number of a queue.

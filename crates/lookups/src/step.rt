@@ -1,8 +1,8 @@
 // What a slot at a speed costs, and the queue that it and an arrival leave.
 use crate::look::place_of;
 use model::Sheet;
-use queues::after;
-use queues::arrive;
+use slot::after;
+use slot::arrive;
 ghost use mathlib.Core.Path.{_≡_};
 ghost use Prim.Native.Nat.{_≤_};
 ghost use lib.Dec.{T};

@@ -1,7 +1,7 @@
 // The two calls: `plan` and `row`.
 use backward::fill;
+use counts::table;
 use model::Sheet;
-use queues::table;
 use rows::sizes_of;
 use sheets::place;
 use sheets::row_refusal;
@@ -11,7 +11,7 @@ ghost use mathlib.Core.Path.{_≡_};
 ghost use mathlib.Core.Option.{Option·getD};
 ghost use Rattle.model.specs.Counted.{counted};
 ghost use Rattle.model.specs.Plan.{planRefusal, number12};
-ghost use Rattle.queues.specs.Counts.{HoldsCounts};
+ghost use Rattle.counts.specs.Counts.{HoldsCounts};
 ghost use Rattle.value.specs.Narrow.{valueOf};
 ghost use Rattle.planner.specs.Calls.{IsPlan, IsRow};
 

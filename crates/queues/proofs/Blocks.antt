@@ -16,10 +16,10 @@ use Rattle.model.specs.Queue.{Queue, total, queueIn, bearable, queueCount, numb
 use Rattle.model.proofs.Queues.{length-in, bearable-at, bearable-all, listed-bearable, number-below, number-place, number-of-place, queue-count}
 use Rattle.queues.specs.Blocks.{queueWith, blockOf, lastOf, firstOf, lowestOf, numberIn, InBlock, Alike, Shifted, risen}
 use Rattle.queues.specs.Order.{earlierAt}
-use Rattle.queues.specs.Slot.{kept}
+use Rattle.slot.specs.Slot.{kept}
 use Rattle.queues.proofs.Numbering.{number-sum}
-use Rattle.queues.proofs.Places.{total-in}
-use Rattle.queues.proofs.Slots.{length-kept, total-kept, last-kept, bearable-kept}
+use Rattle.slot.proofs.Places.{total-in}
+use Rattle.slot.proofs.Slots.{length-kept, total-kept, last-kept, bearable-kept}
 
 -- what comes before at a position
 

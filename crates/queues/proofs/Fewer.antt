@@ -1,5 +1,5 @@
 -- How much room the planner's local memory needs. The queues after a slot are those of one position fewer, since the last total then stands
--- twice (proofs/Slots.antt); they are far fewer than all queues, and so are the blocks that queues come in (specs/Blocks.antt). What
+-- twice (slot/proofs/Slots.antt); they are far fewer than all queues, and so are the blocks that queues come in (specs/Blocks.antt). What
 -- follows from N being at most 65,535 is computed once, over every largest speed and every number of positions.
 use Prim.Native.Nat.{ℕ, zero, suc, pred, _+_, _*_, _≤_}
 use mathlib.Core.Path.{_≡_, refl, ap}

@@ -11,10 +11,10 @@ use lib.Seq.{take-suc-set, getD-set-other, getD-append-add}
 use Rattle.process.specs.Sums.{sum}
 use Rattle.model.specs.Queue.{Queue, placesOf, eachTotal, continuations, bearableQueues, queueCount, continuationCount}
 use Rattle.model.proofs.Queues.{continuations-count, queue-count, getD-zeros}
-use Rattle.queues.specs.Counts.{InTable}
+use Rattle.counts.specs.Counts.{InTable}
 use Rattle.queues.specs.Order.{Ranges, Leads, Follows, following}
-use Rattle.queues.proofs.Bounds.{wider}
-use Rattle.queues.proofs.Places.{places-in}
+use Rattle.counts.proofs.Bounds.{wider}
+use Rattle.slot.proofs.Places.{places-in}
 
 -- the queue at a place of a list whose queues were each given one total more
 map-at : (x : ℕ) (l : List Queue) (k : ℕ) → k < length l → getD (map (λ v. x ∷ v) l) k [] ≡ x ∷ getD l k []

@@ -16,10 +16,10 @@ use Rattle.process.specs.Sums.{sum, same}
 use Rattle.process.proofs.Sums.{sum-same, sum-more}
 use Rattle.model.specs.Queue.{Queue, total, queueIn, bearable, eachTotal, continuations, bearableQueues, queueCount, placeIn, numberOf, continuationCount}
 use Rattle.model.proofs.Queues.{GoesOn, bearable-at, bearable-upto, continuations-count, continuations-in, place-found, number-below, queue-count, length-in}
-use Rattle.queues.specs.Counts.{InTable}
+use Rattle.counts.specs.Counts.{InTable}
 use Rattle.queues.specs.Order.{Ranges, Numbered, earlierAt}
 use Rattle.queues.proofs.Bounds.{queues-few}
-use Rattle.queues.proofs.Places.{total-in}
+use Rattle.slot.proofs.Places.{total-in}
 
 -- queues that begin with another total are all passed
 place-passed : (y x : ℕ) (q : Queue) (l rest : List Queue) → (y ≡ x → ⊥) →

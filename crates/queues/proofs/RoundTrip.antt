@@ -9,7 +9,7 @@ use lib.ListN.{length, getD}
 use Rattle.model.specs.Queue.{queueIn, placesOf, bearable, bearableQueues, queueCount, numberOf}
 use Rattle.model.proofs.Queues.{listed-bearable, number-below, number-place, number-of-place, length-in, in-places}
 use Rattle.queues.specs.Order.{Ranges, Numbered}
-use Rattle.queues.proofs.Places.{places-in}
+use Rattle.slot.proofs.Places.{places-in}
 
 -- of a queue in the first D places
 

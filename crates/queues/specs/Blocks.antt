@@ -7,7 +7,7 @@ use mathlib.Core.List.{[]}
 use lib.ListN.{length, getD}
 use Rattle.process.specs.Sums.{sum}
 use Rattle.model.specs.Queue.{Queue, total, queueIn, bearableQueues, queueCount, numberOf}
-use Rattle.queues.specs.Slot.{kept}
+use Rattle.slot.specs.Slot.{kept}
 
 -- the queue of d positions with number n
 abbrev pub queueWith : ℕ → ℕ → ℕ → Queue

@@ -1,4 +1,2 @@
-pub mod Counts
 pub mod Order
-pub mod Slot
 pub mod Blocks

@@ -14,10 +14,10 @@ use Rattle.model.specs.Queue.{Queue, total, queueIn, placesOf, bearable, queueC
 use Rattle.model.proofs.Queues.{length-places, total-places, total-past, listed-bearable}
 use Rattle.queues.specs.Blocks.{queueWith, firstOf, lowestOf}
 use Rattle.queues.specs.Order.{Ranges, Numbered}
-use Rattle.queues.specs.Slot.{kept}
+use Rattle.slot.specs.Slot.{kept}
 use Rattle.queues.proofs.Blocks.{first-queue}
-use Rattle.queues.proofs.Places.{total-in, positions-in}
-use Rattle.queues.proofs.Slots.{length-kept, total-kept, last-kept}
+use Rattle.slot.proofs.Places.{total-in, positions-in}
+use Rattle.slot.proofs.Slots.{length-kept, total-kept, last-kept}
 
 pub kept-places : (d : ℕ) (v : Queue) {places : List ℕ} {last : ℕ} → d ≤ 5 → length v ≡ d → places ≡ placesOf v → last ≡ total places d →
     set places d last ≡ placesOf (kept v)

@@ -12,8 +12,8 @@ use Rattle.model.specs.Queue.{Queue, total, NeverFalls, queueIn, bearable, queu
 use Rattle.model.proofs.Longer.{run-never-falls}
 use Rattle.model.proofs.Queues.{number-below, number-place, length-in, length-run}
 use Rattle.queues.specs.Blocks.{queueWith}
-use Rattle.queues.specs.Slot.{kept}
-use Rattle.queues.proofs.Slots.{run-kept, run-bearable}
+use Rattle.slot.specs.Slot.{kept}
+use Rattle.slot.proofs.Slots.{run-kept, run-bearable}
 use Rattle.value.specs.Width.{Width, readAt}
 use Rattle.rows.specs.Rows.{valueInRow, Row, RowOf, RowAfter}
 

@@ -8,7 +8,7 @@ use lib.ListN.{length}
 use Rattle.process.specs.Recursion.{only}
 use Rattle.model.specs.Queue.{Queue, NeverFalls, bearable, queueCount, numberOf}
 use Rattle.queues.specs.Blocks.{queueWith}
-use Rattle.queues.specs.Slot.{kept}
+use Rattle.slot.specs.Slot.{kept}
 use Rattle.value.specs.Width.{Width, readAt}
 
 -- what the row that begins at place `from` says of a queue: none of one that is not bearable

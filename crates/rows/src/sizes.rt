@@ -1,12 +1,12 @@
 // What is worked out once for a sheet.
+use limits::greatest_of;
 use model::Sheet;
 use queues::queue_count;
-use sheets::greatest_of;
 ghost use mathlib.Core.Path.{_≡_};
 ghost use Prim.Native.Nat.{pred};
 ghost use Rattle.model.specs.Counted.{counted};
 ghost use Rattle.model.specs.Refusal.{sheetRefusal};
-ghost use Rattle.queues.specs.Counts.{HoldsCounts};
+ghost use Rattle.counts.specs.Counts.{HoldsCounts};
 ghost use Rattle.rows.specs.Sizes.{Sized};
 
 // The largest speed M, the deadline bound D, the number of queues N, and how many queues there are after a slot, before an arrival: those

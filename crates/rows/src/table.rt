@@ -1,15 +1,15 @@
 // The table that a pass reads along the blocks of a row: where its lines stand, and how its columns and its lines are begun.
 use crate::sizes::one_fewer;
 use queues::queue_at;
-use queues::total;
+use slot::total;
 ghost use mathlib.Core.Path.{_≡_};
 ghost use Prim.Native.Nat.{ℕ, pred, _+_, _*_, _≤_, _<_};
 ghost use lib.ListN.{length};
 ghost use Rattle.model.specs.Queue.{placesOf, queueCount};
 ghost use Rattle.queues.specs.Blocks.{queueWith};
-ghost use Rattle.queues.specs.Counts.{HoldsCounts};
+ghost use Rattle.counts.specs.Counts.{HoldsCounts};
 ghost use Rattle.queues.specs.Order.{Ranges};
-ghost use Rattle.queues.specs.Slot.{kept};
+ghost use Rattle.slot.specs.Slot.{kept};
 ghost use Rattle.value.specs.Fills.{Fills, numberAt};
 ghost use Rattle.rows.specs.Tables.{lineOf, lineAt, Columns};
 

@@ -1,4 +1,1 @@
-pub mod Places
-pub mod Products
 pub mod Speeds
-pub mod Answers

@@ -1,17 +1,17 @@
 // The number of a sheet in memory: the tests 4 to 10 in 01's field order.
-use crate::limits::limits_refusal;
-use crate::ranges::bound_right;
-use crate::ranges::horizon_right;
-use crate::ranges::job_count_right;
-use crate::ranges::refusal_of_job;
-use crate::ranges::refusal_of_speed;
-use crate::ranges::speed_count_right;
+use limits::limits_refusal;
 use model::Sheet;
+use ranges::bound_right;
+use ranges::horizon_right;
+use ranges::job_count_right;
+use ranges::refusal_of_job;
+use ranges::refusal_of_speed;
+use ranges::speed_count_right;
 ghost use mathlib.Core.Path.{_≡_};
 ghost use Prim.Native.Nat.{_≤_, _<_};
 ghost use Rattle.model.specs.Counted.{counted};
 ghost use Rattle.model.specs.Refusal.{speedRefusalAt, jobRefusalAt, speedsRefusal, jobsRefusal, fieldsRefusal, sheetRefusal};
-ghost use Rattle.queues.specs.Counts.{HoldsCounts};
+ghost use Rattle.counts.specs.Counts.{HoldsCounts};
 
 // The number of the speed at a place.
 fn refusal_at_speed(sheet: Sheet, place: u32) -> u32

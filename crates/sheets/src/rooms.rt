@@ -1,12 +1,12 @@
 // Where a slot and a queue stand in a plan, and the test that the row call and the stepper make first: 4 to 10, then 11.
-use crate::limits::queues_of;
 use crate::refusal::sheet_refusal;
+use limits::queues_of;
 use model::Sheet;
 ghost use mathlib.Core.Path.{_≡_};
 ghost use Prim.Native.Nat.{_+_, _*_, _≤_};
 ghost use Rattle.model.specs.Counted.{counted};
 ghost use Rattle.model.specs.Plan.{rowRefusal};
-ghost use Rattle.queues.specs.Counts.{HoldsCounts};
+ghost use Rattle.counts.specs.Counts.{HoldsCounts};
 
 // The place of a slot and a queue, in the values and in the plan: each row has as many places as there are queues.
 pub fn place(queues: usize, slot: u32, queue: usize) -> usize

@@ -17,7 +17,7 @@ use Rattle.model.proofs.Queues.{length-run, total-run, length-in, bearable-at}
 use Rattle.model.proofs.Tests.{and-left, and-right, and-both, same-test, holds-true}
 use Rattle.queues.specs.Blocks.{Alike}
 use Rattle.queues.proofs.Blocks.{number-last, bearable-with}
-use Rattle.queues.proofs.Places.{total-in, positions-in}
+use Rattle.slot.proofs.Places.{total-in, positions-in}
 use Rattle.rows.proofs.Measures.{one-fewer}
 use Rattle.speed_lanes.specs.Lanes.{afterOf, leadsOn, laneOf, Lane}
 

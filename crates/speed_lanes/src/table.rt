@@ -2,21 +2,21 @@
 // of the block's first queue, its last total, the place of the slowest speed that leads on, and for each speed the number of the queue
 // after a slot at it.
 use model::Sheet;
-use queues::after;
-use queues::finishable;
 use queues::number;
 use rows::Sizes;
 use rows::first_queue;
 use rows::line_at;
 use rows::put_head;
 use rows::put_pair;
+use slot::after;
+use slot::finishable;
 ghost use mathlib.Core.Path.{_≡_};
 ghost use Prim.Native.Nat.{_+_, _≤_, _<_};
 ghost use lib.ListN.{length};
 ghost use Rattle.model.specs.Counted.{counted, speedAt, energyAt};
 ghost use Rattle.model.specs.Queue.{queueIn};
 ghost use Rattle.model.specs.Refusal.{fieldsRefusal};
-ghost use Rattle.queues.specs.Counts.{HoldsCounts};
+ghost use Rattle.counts.specs.Counts.{HoldsCounts};
 ghost use Rattle.value.specs.Fills.{Fills, numberAt};
 ghost use Rattle.rows.specs.Sizes.{Measured};
 ghost use Rattle.rows.specs.Tables.{lineAt, Columns, LinesPut};

@@ -1,9 +1,9 @@
 // What the calls test, each test with its number: 13 of a state, 16 of a plan byte.
 use crate::state::State;
 use lookups::place_of;
+use limits::greatest_of;
 use model::Sheet;
-use queues::bearable;
-use sheets::greatest_of;
+use slot::bearable;
 ghost use mathlib.Core.Path.{_≡_};
 ghost use Rattle.model.specs.Counted.{counted};
 ghost use Rattle.model.specs.Refusal.{fieldsRefusal};

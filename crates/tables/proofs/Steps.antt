@@ -9,7 +9,7 @@ use Rattle.model.specs.Reading.{Answer, refused, Reader, _>>_, done, test, fiel
 use Rattle.model.specs.Refusal.{speedCountRight, speedRight, energyRight, jobCountRight, weightRight, sizeRight, deadlineRight}
 use Rattle.model.specs.declared.Job.{Job}
 use Rattle.model.specs.declared.Speed.{Speed}
-use Rattle.sheets.proofs.Answers.{passed-by, failed-by}
+use Rattle.ranges.proofs.Answers.{passed-by, failed-by}
 use Rattle.fields.specs.Answers.{fieldAnswer, refusalNumber}
 use Rattle.fields.specs.declared.Field.{Field}
 use Rattle.fields.specs.declared.Field.the-variants as field

@@ -1,7 +1,7 @@
 // Walks every list of totals of a few sizes, one more than is bearable at each position too, in dictionary order. It counts those that
 // are bearable, and of these the ones whose number is how many came before and whose number gives the queue back.
 ghost use Prim.Native.Nat.{_+_, _≤_, _<_};
-ghost use Rattle.queues.specs.Counts.{HoldsCounts};
+ghost use Rattle.counts.specs.Counts.{HoldsCounts};
 ghost use Rattle.queues.specs.Order.{Ranges, Numbered};
 
 // How many bearable queues were met, and how many of them stood at their numbers.
@@ -31,7 +31,7 @@ fn met(counts: &[u32; 2352], largest: u32, bound: usize, queue: [u32; 6], walked
     requires { ⌜ HoldsCounts (now counts) × Ranges largest bound × (walked .queues < 1000000) × (walked .right ≤ walked .queues) ⌝ }
     ensures { λ r. ⌜ (r .queues ≤ walked .queues + 1) × (r .right ≤ r .queues) ⌝ }
 {
-    if !queues::bearable(largest, bound, queue) {
+    if !slot::bearable(largest, bound, queue) {
         return walked;
     }
     let queues = walked.queues + 1;
@@ -104,7 +104,7 @@ fn print_walk(counts: &[u32; 2352], largest: u32, bound: usize)
 }
 
 fn main() {
-    let counts = queues::table();
+    let counts = counts::table();
     print_walk(&counts, 2, 3);
     print_walk(&counts, 8, 2);
     print_walk(&counts, 3, 5);

@@ -1,9 +1,9 @@
 // The writer: a sheet's bytes into a lent buffer. How long they are is worked out first, so that a refused write touches nothing. Its call
 // takes any sheet in memory and any buffer. What it refuses, it refuses with a number.
+use counts::table;
 use model::Job;
 use model::Sheet;
 use model::Speed;
-use queues::table;
 use sheets::sheet_refusal;
 ghost use mathlib.Core.Path.{_≡_};
 ghost use Prim.Native.Nat.{_+_, _^_, _≤_, _<_};

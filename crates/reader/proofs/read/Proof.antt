@@ -10,7 +10,7 @@ use Rattle.model.specs.Reading.{readSpeedTable, readJobTable, readCounted}
 use Rattle.model.specs.Refusal.{boundRight, horizonRight, fieldsRefusal, limitsRefusal, N}
 use Rattle.model.specs.Counted.{Counted, sheetOf, counted, inMemory}
 use Rattle.model.specs.declared.Speed.{Speed}
-use Rattle.sheets.proofs.Answers.{passed-by}
+use Rattle.ranges.proofs.Answers.{passed-by}
 use Rattle.tables.specs.Answers.{speedPlaces, jobPlaces}
 use Rattle.tables.specs.declared.JobTable.{JobTable}
 use Rattle.tables.specs.declared.SpeedTable.{SpeedTable}
@@ -27,8 +27,8 @@ use Rattle.reader.proofs.refused.Reads as refused-reads
 use Rattle.reader.proofs.whole.Reads as whole-reads
 use Rattle.tables.proofs.job_table_at.Reads as job-table-at-reads
 use Rattle.tables.proofs.speed_table_at.Reads as speed-table-at-reads
-use Rattle.sheets.proofs.bound_right.Reads as bound-right-reads
-use Rattle.sheets.proofs.horizon_right.Reads as horizon-right-reads
+use Rattle.ranges.proofs.bound_right.Reads as bound-right-reads
+use Rattle.ranges.proofs.horizon_right.Reads as horizon-right-reads
 
 abbrev calls : lts.Claims
 calls = (

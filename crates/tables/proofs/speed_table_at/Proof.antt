@@ -3,7 +3,7 @@ use mathlib.Core.Path.{sym, ap, _∙_}
 use native.Mathlib.Nat.{zero-lt-suc}
 use borrow.Author.Needs.{needs}
 use Rattle.model.proofs.Readers.{number-positive}
-use Rattle.sheets.proofs.Answers.{within-by}
+use Rattle.ranges.proofs.Answers.{within-by}
 use Rattle.tables.specs.Answers.{inMemoryAs, speedPlaces}
 use Rattle.tables.proofs.Rows.{table-refused}
 use Rattle.tables.proofs.Steps.{field-number, refused-positive, field-refused, field-fails, field-passes, at-speed-count}

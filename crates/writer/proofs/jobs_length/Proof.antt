@@ -9,7 +9,7 @@ use Rattle.model.specs.Bytes.{jobBytes, jobCode}
 use Rattle.model.specs.Counted.{counted}
 use Rattle.model.specs.Tests.{inTurn}
 use Rattle.model.specs.declared.Job.{Job}
-use Rattle.sheets.proofs.Places.{job-counts}
+use Rattle.limits.proofs.Places.{job-counts}
 use Rattle.model.proofs.Tests.{turn-next}
 use Rattle.writer.proofs.Lengths.{code-upto, job-length, jobs-upto}
 use Rattle.writer.proofs.jobs_length.Statement.{statement}

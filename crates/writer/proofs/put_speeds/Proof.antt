@@ -6,7 +6,7 @@ use Rattle.model.proofs.Refusal.{ranged}
 use Rattle.model.specs.Bytes.{speedBytes, speedCode}
 use Rattle.model.specs.Counted.{counted}
 use Rattle.model.specs.Tests.{inTurn}
-use Rattle.sheets.proofs.Places.{speed-counts}
+use Rattle.limits.proofs.Places.{speed-counts}
 use Rattle.buffers.specs.Laid.{Laid}
 use Rattle.writer.specs.Short.{SpeedShort}
 use Rattle.buffers.proofs.Laid.{laid-none, laid-length, turn-room, turn-laid}

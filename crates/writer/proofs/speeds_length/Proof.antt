@@ -9,7 +9,7 @@ use Rattle.model.specs.Bytes.{speedBytes, speedCode}
 use Rattle.model.specs.Counted.{counted}
 use Rattle.model.specs.Tests.{inTurn}
 use Rattle.model.specs.declared.Speed.{Speed}
-use Rattle.sheets.proofs.Places.{speed-counts}
+use Rattle.limits.proofs.Places.{speed-counts}
 use Rattle.model.proofs.Tests.{turn-next}
 use Rattle.writer.proofs.Lengths.{code-upto, speed-length, speeds-upto}
 use Rattle.writer.proofs.speeds_length.Statement.{statement}

@@ -6,7 +6,7 @@ use lib.ListN.{length}
 use Rattle.model.specs.Counted.{counted, weightAt, sizeAt, deadlineAt}
 use Rattle.model.specs.declared.Job.{Job}
 use Rattle.model.proofs.Refusal.{Ranged, ranged}
-use Rattle.sheets.proofs.Places.{job-counts}
+use Rattle.limits.proofs.Places.{job-counts}
 use Rattle.rows.specs.Tables.{Columns}
 use Rattle.rows.proofs.Tables.{columns-none}
 use Rattle.entry_lanes.specs.Lanes.{liftOf}

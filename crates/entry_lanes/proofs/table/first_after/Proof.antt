@@ -6,7 +6,7 @@ use borrow.Author.Needs.{needs}
 use Rattle.model.specs.Queue.{placesOf, queueCount}
 use Rattle.queues.specs.Blocks.{firstOf}
 use Rattle.queues.specs.Order.{Ranges}
-use Rattle.queues.specs.Slot.{kept}
+use Rattle.slot.specs.Slot.{kept}
 use Rattle.rows.proofs.Measures.{ranges-fewer, one-fewer}
 use Rattle.entry_lanes.proofs.Firsts.{after-places}
 use Rattle.entry_lanes.proofs.table.first_after.Statement.{statement}

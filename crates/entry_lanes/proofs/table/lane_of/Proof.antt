@@ -7,7 +7,7 @@ use lib.Dec.{T}
 use Rattle.model.specs.Queue.{queueIn, numberOf}
 use Rattle.queues.specs.Order.{Numbered}
 use Rattle.queues.proofs.RoundTrip.{number-in-below}
-use Rattle.sheets.proofs.Answers.{passed-by, failed-by}
+use Rattle.ranges.proofs.Answers.{passed-by, failed-by}
 use Rattle.entry_lanes.proofs.table.lane_of.Statement.{statement}
 use Rattle.entry_lanes.proofs.table.lane_of.Tie as tie
 

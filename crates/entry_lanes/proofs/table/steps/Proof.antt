@@ -8,8 +8,8 @@ use Rattle.model.specs.Counted.{counted}
 use Rattle.model.specs.Queue.{total, queueIn, arrive}
 use Rattle.model.specs.declared.Job.{Job}
 use Rattle.model.proofs.Refusal.{Ranged, ranged}
-use Rattle.queues.proofs.Places.{total-in}
-use Rattle.sheets.proofs.Places.{job-counts}
+use Rattle.slot.proofs.Places.{total-in}
+use Rattle.limits.proofs.Places.{job-counts}
 use Rattle.rows.proofs.Measures.{most-total}
 use Rattle.entry_lanes.specs.Lanes.{stepsOf, stepsTo}
 use Rattle.entry_lanes.proofs.Firsts.{joined-in, most-fewer}

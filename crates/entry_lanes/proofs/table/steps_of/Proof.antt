@@ -9,8 +9,8 @@ use lib.Dec.{T}
 use lib.ListN.{length}
 use Rattle.model.specs.Queue.{total, queueIn, bearable}
 use Rattle.model.proofs.Queues.{length-in}
-use Rattle.queues.proofs.Places.{total-in}
-use Rattle.sheets.proofs.Answers.{passed-by, failed-by}
+use Rattle.slot.proofs.Places.{total-in}
+use Rattle.ranges.proofs.Answers.{passed-by, failed-by}
 use Rattle.rows.proofs.Measures.{most-total, one-fewer}
 use Rattle.entry_lanes.proofs.Firsts.{most-fewer, last-held, before-held}
 use Rattle.entry_lanes.proofs.Lanes.{steps-told}

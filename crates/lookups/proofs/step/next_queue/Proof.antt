@@ -7,8 +7,8 @@ use Rattle.model.proofs.Queues.{held-bearable, length-in, length-run, in-first-
 use Rattle.model.proofs.Refusal.{ranged, M-high}
 use Rattle.model.specs.Counted.{counted, M}
 use Rattle.model.specs.Queue.{Queue, queueIn, placesOf, run, arrive}
-use Rattle.queues.proofs.Slots.{bearable-small, run-small}
-use Rattle.queues.specs.Slot.{Small}
+use Rattle.slot.proofs.Slots.{bearable-small, run-small}
+use Rattle.slot.specs.Slot.{Small}
 use Rattle.lookups.proofs.step.next_queue.Statement.{statement}
 use Rattle.lookups.proofs.step.next_queue.Tie as tie
 

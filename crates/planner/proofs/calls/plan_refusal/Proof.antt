@@ -7,7 +7,7 @@ use borrow.Author.Tests.{leb-true, leb-false}
 use Rattle.model.proofs.Rooms.{plan-refused, plan-short-values, plan-short-plan, plan-fits}
 use Rattle.model.specs.Counted.{counted}
 use Rattle.model.specs.Refusal.{sheetRefusal}
-use Rattle.sheets.proofs.Answers.{passed-by, failed-by}
+use Rattle.ranges.proofs.Answers.{passed-by, failed-by}
 use Rattle.value.specs.Narrow.{width}
 use Rattle.backward.proofs.Backward.{sizes-small}
 use Rattle.planner.proofs.Outcomes.{place-is, needed-is}

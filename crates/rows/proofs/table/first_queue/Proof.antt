@@ -7,7 +7,7 @@ use Rattle.model.specs.Queue.{placesOf, queueCount}
 use Rattle.model.proofs.Queues.{listed-bearable}
 use Rattle.queues.specs.Blocks.{queueWith}
 use Rattle.queues.specs.Order.{Ranges}
-use Rattle.queues.specs.Slot.{kept}
+use Rattle.slot.specs.Slot.{kept}
 use Rattle.rows.proofs.Kept.{kept-places}
 use Rattle.rows.proofs.Measures.{ranges-fewer}
 use Rattle.rows.proofs.table.first_queue.Statement.{statement}

@@ -3,7 +3,7 @@ use mathlib.Core.Path.{sym, _∙_}
 use borrow.Author.Needs.{needs}
 use Rattle.model.proofs.Tests.{then-passes, then-fails, then-on, then-stops}
 use Rattle.model.specs.Refusal.{fieldLines}
-use Rattle.sheets.proofs.Answers.{passed-by, failed-by, within-by}
+use Rattle.ranges.proofs.Answers.{passed-by, failed-by, within-by}
 use Rattle.sheets.proofs.refusal.fields_refusal.Statement.{statement}
 use Rattle.sheets.proofs.refusal.fields_refusal.Tie as tie
 

@@ -3,7 +3,7 @@ use mathlib.Core.Path.{sym, ap, _∙_}
 use borrow.Author.Needs.{needs}
 use Rattle.model.specs.Refusal.{refusalOfJob}
 use Rattle.model.specs.declared.Job.{Job}
-use Rattle.sheets.proofs.Places.{job-counts}
+use Rattle.limits.proofs.Places.{job-counts}
 use Rattle.sheets.proofs.refusal.refusal_at_job.Statement.{statement}
 use Rattle.sheets.proofs.refusal.refusal_at_job.Tie as tie
 

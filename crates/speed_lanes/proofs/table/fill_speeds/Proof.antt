@@ -6,7 +6,7 @@ use lib.ListN.{length}
 use Rattle.model.specs.Counted.{counted, speedAt, energyAt}
 use Rattle.model.specs.declared.Speed.{Speed}
 use Rattle.model.proofs.Refusal.{Ranged, ranged}
-use Rattle.sheets.proofs.Places.{speed-counts}
+use Rattle.limits.proofs.Places.{speed-counts}
 use Rattle.rows.specs.Tables.{Columns}
 use Rattle.rows.proofs.Tables.{columns-none}
 use Rattle.speed_lanes.proofs.table.fill_speeds.Statement.{statement}

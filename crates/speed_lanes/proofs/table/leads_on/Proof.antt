@@ -3,7 +3,7 @@ use mathlib.Core.Path.{sym, ap, _∙_}
 use native.Mathlib.Omega.{arith}
 use borrow.Author.Needs.{needs}
 use Rattle.model.specs.Queue.{Queue, queueIn, bearable}
-use Rattle.queues.proofs.Places.{total-in}
+use Rattle.slot.proofs.Places.{total-in}
 use Rattle.speed_lanes.proofs.Lanes.{after-places, leads-slow, leads-fast}
 use Rattle.speed_lanes.proofs.table.leads_on.Statement.{statement}
 use Rattle.speed_lanes.proofs.table.leads_on.Tie as tie

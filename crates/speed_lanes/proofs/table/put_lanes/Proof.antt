@@ -6,7 +6,7 @@ use Rattle.model.specs.Counted.{counted, speedAt}
 use Rattle.model.specs.Queue.{queueIn}
 use Rattle.model.specs.declared.Speed.{Speed}
 use Rattle.model.proofs.Refusal.{Ranged, ranged}
-use Rattle.sheets.proofs.Places.{speed-counts}
+use Rattle.limits.proofs.Places.{speed-counts}
 use Rattle.value.specs.Fills.{Fills, numberAt}
 use Rattle.value.proofs.Filling.{number-local, fills-none, fills-more, fills-whole, number-stored}
 use Rattle.speed_lanes.specs.Lanes.{laneOf}

@@ -9,7 +9,7 @@ use Rattle.model.specs.Tests.{firstPlace}
 use Rattle.model.specs.declared.Speed.{Speed}
 use Rattle.model.proofs.Refusal.{Ranged, ranged}
 use Rattle.model.proofs.Tests.{first-found, first-more}
-use Rattle.sheets.proofs.Places.{speed-counts}
+use Rattle.limits.proofs.Places.{speed-counts}
 use Rattle.speed_lanes.specs.Lanes.{leadsOn}
 use Rattle.speed_lanes.proofs.table.slowest.Statement.{statement}
 use Rattle.speed_lanes.proofs.table.slowest.Tie as tie

@@ -9,7 +9,7 @@ use Rattle.model.proofs.Stepper.{state-right, moved-by}
 use Rattle.model.specs.Counted.{counted, M}
 use Rattle.model.specs.Queue.{bearable}
 use Rattle.model.specs.Stepper.{queueOf, moved}
-use Rattle.sheets.proofs.Answers.{passed-by, failed-by}
+use Rattle.ranges.proofs.Answers.{passed-by, failed-by}
 use Rattle.stepper.proofs.Outcomes.{stepped-as, asked-of-next, moved-17, moved-18, moved-0}
 use Rattle.stepper.proofs.step.moved.Statement.{statement}
 use Rattle.stepper.proofs.step.moved.Tie as tie

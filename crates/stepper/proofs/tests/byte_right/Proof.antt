@@ -8,7 +8,7 @@ use lib.Dec.{leb}
 use Rattle.model.proofs.Refusal.{ranged}
 use Rattle.model.proofs.Stepper.{wrong-byte, first-decides}
 use Rattle.model.specs.Counted.{counted, placeOfSpeed}
-use Rattle.queues.proofs.Places.{total-in}
+use Rattle.slot.proofs.Places.{total-in}
 use Rattle.lookups.proofs.Looking.{on-sheet-place}
 use Rattle.stepper.proofs.tests.byte_right.Statement.{statement}
 use Rattle.stepper.proofs.tests.byte_right.Tie as tie

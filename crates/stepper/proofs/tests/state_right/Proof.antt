@@ -8,7 +8,7 @@ use lib.Dec.{leb}
 use Rattle.model.proofs.Refusal.{ranged, greatest-energy-high}
 use Rattle.model.proofs.Stepper.{wrong-queue, wrong-slot, energy-decides}
 use Rattle.model.specs.Counted.{counted}
-use Rattle.sheets.proofs.Answers.{passed-by, failed-by}
+use Rattle.ranges.proofs.Answers.{passed-by, failed-by}
 use Rattle.stepper.proofs.tests.state_right.Statement.{statement}
 use Rattle.stepper.proofs.tests.state_right.Tie as tie
 use Rattle.stepper.specs.Calls.{stateOf}

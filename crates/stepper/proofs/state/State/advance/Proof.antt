@@ -10,7 +10,7 @@ use Rattle.model.proofs.Stepper.{speed-by, speed-accepted, byte-on-sheet, advan
 use Rattle.model.specs.Counted.{counted, onSheet}
 use Rattle.model.specs.Refusal.{fieldsRefusal}
 use Rattle.model.specs.Stepper.{Stepped, Told, planByte, speedRefusal, isEntry, moved}
-use Rattle.sheets.proofs.Answers.{passed-by, failed-by}
+use Rattle.ranges.proofs.Answers.{passed-by, failed-by}
 use Rattle.lookups.proofs.Looking.{entry-small}
 use Rattle.stepper.proofs.Outcomes.{stepped-as, refused-gives, moved-advances}
 use Rattle.stepper.proofs.state.State.advance.Statement.{statement}

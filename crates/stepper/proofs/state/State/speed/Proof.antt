@@ -15,7 +15,7 @@ use Rattle.model.specs.Plan.{rowRefusal}
 use Rattle.model.specs.Refusal.{fieldsRefusal}
 use Rattle.model.specs.Stepper.{stateRight, byteRight, planByte, speedRefusal}
 use Rattle.model.specs.Tests.{check}
-use Rattle.sheets.proofs.Answers.{passed-by, failed-by}
+use Rattle.ranges.proofs.Answers.{passed-by, failed-by}
 use Rattle.stepper.proofs.Outcomes.{told-refused, told-done}
 use Rattle.stepper.proofs.state.State.speed.Statement.{statement}
 use Rattle.stepper.proofs.state.State.speed.Tie as tie

@@ -6,7 +6,7 @@ use Rattle.model.proofs.Stepper.{start-by, start-refusal-sheet, start-refusal-1
 use Rattle.model.specs.Counted.{counted}
 use Rattle.model.specs.Refusal.{sheetRefusal}
 use Rattle.model.specs.Stepper.{zeroState}
-use Rattle.sheets.proofs.Answers.{passed-by, failed-by}
+use Rattle.ranges.proofs.Answers.{passed-by, failed-by}
 use Rattle.stepper.proofs.Outcomes.{stepped-as, refused-gives}
 use Rattle.stepper.proofs.state.State.start.Statement.{statement}
 use Rattle.stepper.proofs.state.State.start.Tie as tie

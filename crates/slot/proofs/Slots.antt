@@ -1,0 +1,117 @@
+-- What a slot at a speed of at least w(1) leaves of a queue: its last total stands twice, so that the positions before the last one tell
+-- the whole queue and whether it is bearable. And an arrival makes no queue bearable; and the totals of a bearable queue, and of what a
+-- slot leaves of it, are small enough to be added to. The planner's and the stepper's steps stand on these laws.
+use Prim.Native.Nat.{ℕ, zero, suc, _*_, _-_, min, _≤_, _<_, zero-le}
+use mathlib.Core.Path.{_≡_, refl, sym, ap, _∙_}
+use mathlib.Core.Bool.{Bool, true, false}
+use mathlib.Core.List.{[], _∷_, _++_}
+use native.Mathlib.Nat.{le-refl, suc-mul, mul-le-mul}
+use native.Mathlib.Numerals.{add-one}
+use native.Mathlib.Omega.{arith}
+use borrow.Author.Tests.{ltb-true, ltb-false, leb-true, leb-false}
+use lib.Dec.{T, leb, ltb}
+use lib.ListN.{length, length-append, List·getD-append}
+use lib.Seq.{take-suc, take-all, getD-append-seam}
+use Rattle.model.specs.Queue.{Queue, total, NeverFalls, queueIn, bearable, run, arrive}
+use Rattle.model.proofs.Queues.{total-past, length-run, length-arrive, total-run, total-arrive, bearable-at, bearable-all, bearable-upto, length-in}
+use Rattle.model.proofs.Tests.{same-test}
+use Rattle.slot.specs.Slot.{Small, kept}
+use Rattle.slot.proofs.Places.{total-in}
+
+-- a queue whose last total stands once more (specs/Slot.antt)
+
+-- it has one position more
+pub length-kept : (v : Queue) → length (kept v) ≡ suc (length v)
+length-kept v = length-append v _ ∙ add-one (length v)
+
+-- its totals up to the old last one are the old ones
+pub total-kept : (v : Queue) (u : ℕ) → u ≤ length v → total (kept v) u ≡ total v u
+total-kept v zero h = refl
+total-kept v (suc i) h = List·getD-append v _ 0 i h
+
+-- its last total is the old last one
+pub last-kept : (v : Queue) → total (kept v) (suc (length v)) ≡ total v (length v)
+last-kept v = getD-append-seam v (total v (length v)) [] 0
+
+-- a queue whose last total stands once more is bearable exactly where the queue was
+pub bearable-kept : (M : ℕ) (v : Queue) → bearable M (kept v) ≡ bearable M v
+bearable-kept M v =
+    same-test (bearable M (kept v)) (bearable M v)
+    (λ t. bearable-all M v
+    (λ i h. let k = bearable-at M (kept v) t i (omega (arith, length-kept v)) in
+    omega (arith, total-kept v i (omega arith), total-kept v (suc i) h)))
+    (λ t. bearable-all M (kept v) (λ i h. each t i h (ltb i (length v)) refl))
+  where
+    each : T (bearable M v) → (i : ℕ) → i < length (kept v) → (b : Bool) → ltb i (length v) ≡ b →
+        (total (kept v) i ≤ total (kept v) (suc i)) × (total (kept v) (suc i) ≤ suc i * M)
+    each t i h true e =
+        let l : i < length v = ltb-true i (length v) e in
+        let k = bearable-at M v t i l in
+        omega (arith, total-kept v i (omega arith), total-kept v (suc i) l)
+    each t i h false e =
+        let last : i ≡ length v = omega (arith, ltb-false i (length v) e, length-kept v) in
+        let before = total-kept v i (omega arith) in
+        let same = ap (λ k. total (kept v) (suc k)) last ∙ last-kept v ∙ ap (total v) (sym last) in
+        omega (arith, bearable-upto M v t i (omega arith), suc-mul i M)
+
+-- after a slot at a speed of at least w(1) the last two totals are the same; a queue of one position is empty then, since w(0) is 0
+pub run-last : (w : Queue) (s D : ℕ) → length w ≡ suc D → total w 1 ≤ s → total (run w s) (suc D) ≡ total (run w s) D
+run-last w s zero l h =
+    let last : min 2 (length w) ≡ 1 = omega arith in
+    let met : total w 1 - s ≡ 0 = omega arith in
+    total-run w s 1 (omega arith) (omega arith) ∙ ap (λ u. total w u - s) last ∙ met
+run-last w s (suc i) l h =
+    let last : min (suc (suc (suc i))) (length w) ≡ min (suc (suc i)) (length w) = omega arith in
+    total-run w s (suc (suc i)) (omega arith) (omega arith) ∙ ap (λ u. total w u - s) last ∙
+    sym (total-run w s (suc i) (omega arith) (omega arith))
+
+-- after such a slot the queue is its positions before the last, the last total kept
+pub run-kept : (w : Queue) (s D : ℕ) → length w ≡ suc D → total w 1 ≤ s → run w s ≡ kept (queueIn D (run w s))
+run-kept w s D l h =
+    let r = run w s in
+    let long : length r ≡ suc D = length-run w s ∙ l in
+    let before = queueIn D r in
+    let last : total r (suc D) ≡ total before (length before) =
+    run-last w s D l h ∙ sym (total-in D r D (le-refl D)) ∙ ap (total before) (sym (length-in D r (omega arith))) in
+    sym (take-all (suc D) r (omega arith)) ∙ take-suc r D 0 (omega arith) ∙ ap (λ n. before ++ (n ∷ [])) last
+
+-- after such a slot the queue is bearable exactly where its positions before the last are a bearable queue
+pub run-bearable : (M : ℕ) (w : Queue) (s D : ℕ) → length w ≡ suc D → total w 1 ≤ s →
+    bearable M (run w s) ≡ bearable M (queueIn D (run w s))
+run-bearable M w s D l h = ap (bearable M) (run-kept w s D l h) ∙ bearable-kept M (queueIn D (run w s))
+
+-- a queue that is not bearable is bearable after no arrival
+pub arrive-not-bearable : (M : ℕ) (w : Queue) (c d : ℕ) → NeverFalls w → T (bearable M (arrive w c d)) → T (bearable M w)
+arrive-not-bearable M w c d rises t =
+    bearable-all M w
+    (λ i h. (
+      rises i h,
+      omega (
+        arith,
+        total-arrive w c d (suc i) (omega arith) (omega arith),
+        bearable-at M (arrive w c d) t i (omega (arith, length-arrive w c d)) .1,
+      ),
+    ))
+
+-- no total of a bearable queue is above 48, so that a job can be added to it
+pub bearable-small : (M : ℕ) (w : Queue) → M ≤ 8 → length w ≤ 6 → T (bearable M w) → Small w
+bearable-small M w high few t u = go (leb u (length w)) refl
+  where
+    go : (b : Bool) → leb u (length w) ≡ b → total w u ≤ 48
+    go true e =
+        let within : u ≤ length w = leb-true u (length w) e in
+        let short : u ≤ 6 = omega arith in
+        omega (arith, bearable-upto M w t u within, mul-le-mul short high)
+    go false e = omega (arith, total-past w u (leb-false u (length w) e))
+
+-- nor is one after a slot above 48 where none was
+pub run-small : (w : Queue) (s : ℕ) → Small w → Small (run w s)
+run-small w s small zero = zero-le
+run-small w s small (suc i) = go (leb (suc i) (length w)) refl
+  where
+    go : (b : Bool) → leb (suc i) (length w) ≡ b → total (run w s) (suc i) ≤ 48
+    go true e =
+        let next = min (suc (suc i)) (length w) in
+        omega (arith, total-run w s (suc i) (omega arith) (leb-true (suc i) (length w) e), small next)
+    go false e =
+        omega (arith, total-past (run w s) (suc i) (omega (arith, leb-false (suc i) (length w) e, length-run w s)))
