@@ -1,12 +1,12 @@
 // The call: the listing of a planned sheet. How long it is is worked out first, so that a refused call touches nothing.
+use counts::table;
+use limits::queues_of;
 use lines::Header;
 use lines::header_length;
 use lines::lines_length;
 use lines::put_header;
 use lines::put_lines;
 use lines::scale_of;
-use counts::table;
-use limits::queues_of;
 use model::Sheet;
 use sheets::row_refusal;
 ghost use mathlib.Core.Path.{_≡_};

@@ -1,13 +1,13 @@
 // The reader: the fields in order, each tested before the next one is read; after the last, 3, 9 and 10. Its call takes any bytes. What it
 // refuses, it refuses with a number.
+use counts::table;
 use fields::Field;
 use fields::field_at;
 use fields::number_of;
+use limits::limits_refusal;
 use model::Sheet;
-use counts::table;
 use ranges::bound_right;
 use ranges::horizon_right;
-use limits::limits_refusal;
 use tables::JobTable;
 use tables::SpeedTable;
 use tables::job_table_at;

@@ -1,11 +1,11 @@
 // What a slot does to a state.
 use crate::state::State;
 use crate::state::Stepped;
+use limits::greatest_of;
 use lookups::energy_of;
 use lookups::next_queue;
 use model::Sheet;
 use slot::finishable;
-use limits::greatest_of;
 ghost use mathlib.Core.Path.{_≡_};
 ghost use Prim.Native.Nat.{_≤_};
 ghost use lib.Dec.{T};

@@ -1,7 +1,7 @@
 // What the calls test, each test with its number: 13 of a state, 16 of a plan byte.
 use crate::state::State;
-use lookups::place_of;
 use limits::greatest_of;
+use lookups::place_of;
 use model::Sheet;
 use slot::bearable;
 ghost use mathlib.Core.Path.{_≡_};
