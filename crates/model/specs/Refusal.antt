@@ -26,7 +26,7 @@ speedRight (suc j) before speed = ltb before speed && leb speed 8
 abbrev pub energyRight : ℕ → Bool
 energyRight energy = leb energy 65535
 
--- "Horizon T: 1 to 200 slots"
+-- "Horizon T: 1 to 200 slots, numbered 0 to T-1"
 abbrev pub horizonRight : ℕ → Bool
 horizonRight T = within 1 200 T
 
