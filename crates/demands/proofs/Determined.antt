@@ -154,6 +154,10 @@ list-determined {least = least} {bytes = bytes} {before = before} {a = a} {b = b
       one .buffer-is ∙ ap (λ (s : Counted). list s least bytes before .buffer) view ∙ sym (two .buffer-is),
     )
 
+-- a state in memory is what the model says of it
+pub state-same : {x y : State} → stateOf x ≡ stateOf y → x ≡ y
+state-same e = ap (λ (z : model-stepper.State). record { queue = z .queue; slot = z .slot; energy = z .energy }) e
+
 -- start and advance answer alike
 
 -- two answers of which the model says the same are equal
