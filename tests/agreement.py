@@ -276,7 +276,7 @@ def answer(command, data):
 
 def answer_to_pieces(command, first, second):
     """The same where the input comes in two pieces: short reads "are repeated until the
-    buffer is full or the input ends" (open point 8)."""
+    buffer is full or the input ends" (decision 8)."""
     with subprocess.Popen(command, stdin=subprocess.PIPE, stdout=subprocess.PIPE) as running:
         running.stdin.write(first)
         running.stdin.flush()

@@ -29,7 +29,7 @@ from independent import (
 )
 from stepping import advance, at, speed, start
 
-LARGEST = 2**32 - 1  # of the numbers of a sheet, a queue and an arrival (open point 5)
+LARGEST = 2**32 - 1  # of the numbers of a sheet, a queue and an arrival (decision 5)
 MOST_SPEEDS, MOST_JOBS = 9, 32  # "In memory a sheet has room for all entries"
 MOST_SLOTS, MOST_SPENT = 200, 65_535  # T, and the energy of one slot
 
@@ -301,7 +301,7 @@ def given(number, state):
 
 
 def started_line(name, sheet, totals):
-    # Open point 10: the slot and the energy "are not looked at".
+    # Decision 10: the slot and the energy "are not looked at".
     return f"{name}: started {given(*start(sheet, at(totals, 5, 9)))}"
 
 

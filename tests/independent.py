@@ -1,6 +1,6 @@
 """An independent implementation of document 01: reading, refusing, planning and listing.
 
-It was written from the text of document 01 and of the open points decided beside it,
+It was written from the text of document 01 and of decisions 1 to 18 of docs/DECISIONS.md,
 without looking at the proved code, so that the two can be compared: where they differ,
 one has misread the page. It is plain rather than fast: exact integers, queues listed
 one by one, backward induction as on paper. Quotation marks hold 01's own words.
@@ -281,7 +281,7 @@ def plan_of(sheet):
 
 def refuse_lent_plan(sheet, plan):
     """The number of a sheet with the plan bytes lent for it: "4 to 10, 11". A plan longer
-    than T times N bytes "is fine in every call" (open point 3)."""
+    than T times N bytes "is fine in every call" (decision 3)."""
     number = refuse_sheet(sheet)
     if number == 0 and len(plan) < sheet.horizon * count_queues(sheet):
         return 11
@@ -329,7 +329,7 @@ def program(data):
     """What the planning program writes for these bytes of standard input. It "reads up to
     512 sheet bytes from standard input, lends 8,000 values and 60,000 plan bytes, and writes
     either `refused n`, for any number but 0, or the listing"; 12 is a refusal here too, and
-    a line feed ends that line as well (open point 8)."""
+    a line feed ends that line as well (decision 8)."""
     number, sheet = read_sheet(data[:PROGRAM_SHEET_BYTES])
     if number == 0:
         plan = [0] * PROGRAM_PLAN_BYTES

@@ -1,7 +1,7 @@
 """An independent implementation of document 01's stepper: start, speed and advance.
 
 It stands on independent.py and, like it, was written from the text of document 01 and of
-the open points decided beside it, without looking at the proved code, so that the two
+decisions 1 to 18 of docs/DECISIONS.md, without looking at the proved code, so that the two
 can be compared: where they differ, one has misread the page. Quotation marks hold 01's
 own words. Number 11 is here that the plan bytes are fewer than T times N.
 
@@ -73,7 +73,7 @@ def refuse_queue(sheet, numbers, queue):
 
 def refuse_state(sheet, numbers, state):
     """All of 13: the queue, "the slot is above T, or the energy is above the slot number
-    times the greatest energy", which is 0 where all are 0 (open point 2)."""
+    times the greatest energy", which is 0 where all are 0 (decision 2)."""
     refuse_queue(sheet, numbers, state.queue)
     within(state.slot, 0, sheet.horizon, 13)
     greatest = max(energy for _, energy in sheet.speeds)
@@ -82,7 +82,7 @@ def refuse_state(sheet, numbers, state):
 
 def planned_speed(sheet, numbers, plan, state):
     """The plan byte of this state, or the first of its refusals 11, 13, 14, 16. The byte
-    need not be an admissible speed (open point 11)."""
+    need not be an admissible speed (decision 11)."""
     if len(plan) < sheet.horizon * len(numbers):
         raise Refused(11)
     refuse_state(sheet, numbers, state)

@@ -3,7 +3,7 @@
     python3 tests/test_independent.py
 
 prints `ok`, or stops at the first check that fails. The cases are those of 01's
-"Worked sheet" and of the open points that concern reading, refusing, planning, listing
+"Worked sheet" and of the decisions (docs/DECISIONS.md, 1 to 18) on reading, refusing, planning, listing
 and stepping. `check_ways` then tries ALL ways of small sheets, as 01 defines them, with
 queues stepped by code of its own; nothing there uses the backward induction.
 `check_runs` steps small sheets along all lists of entries, which must spend the value.
@@ -62,7 +62,7 @@ def check_reading():
         4: ["00", "07", "07 80 00", "80 01"],
         5: ["02 01", "02 0A", "02 02 01", "02 02 00 00 00", "02 03 00 00 02 00 01",
             "02 02 00 00 09", "02 03 00 00 08 00 09"],
-        6: ["02 02 00 80 80 04", "02 02 00 F0 A2 04 00 00"],  # the second: open point 1
+        6: ["02 02 00 80 80 04", "02 02 00 F0 A2 04 00 00"],  # the second: decision 1
         7: [head + "00", head + "C9 01"],
         8: [head + "02 00", head + "02 21", head + "02 01 00", head + "02 01 80 02",
             head + "02 01 01 80 02", head + "02 01 01 00 00", head + "02 01 01 00 03"],
@@ -82,9 +82,9 @@ def check_memory():
         (4, Sheet()),
         (4, one_job(7, [(1, 0), (0, 0)], 0, job)),  # the first field decides
         (5, one_job(2, [(0, 0), (9, 70_000)], 1, job)),
-        (6, one_job(2, [(0, 70_000), (0, 0)], 1, job)),  # open point 1
+        (6, one_job(2, [(0, 70_000), (0, 0)], 1, job)),  # decision 1
         (6, one_job(2, [(0, 65_536), (1, 0)], 1, job)),
-        (5, one_job(2, [(0, 0)] * 200, 1, job)),  # open point 5
+        (5, one_job(2, [(0, 0)] * 200, 1, job)),  # decision 5
         (7, one_job(2, speeds, 201, (0, 0, 0))),
         (8, one_job(2, speeds, 1, (256, 0, 1))),
         (8, one_job(2, speeds, 1, (1, 0, 3))),
@@ -107,19 +107,19 @@ def check_sheet_a():
 
 def check_counts():
     for bound, largest_speed, count in [(2, 2, 12), (5, 5, 62_832), (5, 6, 141_778),
-                                        (6, 2, 7_752)]:  # the last: open point 14
+                                        (6, 2, 7_752)]:  # the last: decision 14
         assert sum(1 for _ in bearable_queues(bound, largest_speed)) == count
     assert refuse_sheet(one_job(5, [(0, 0), (5, 1)], 1, (1, 0, 1))) == 0
     assert refuse_sheet(one_job(5, [(0, 0), (6, 1)], 1, (1, 0, 1))) == 10
     # Dictionary order is the order of tuples.
     queues = list(bearable_queues(3, 3))
     assert queues == sorted(queues) and queues[0] == (0, 0, 0)
-    # Open point 14: with D 1 "nothing is left".
+    # Decision 14: with D 1 "nothing is left".
     assert all(run_slot((work,), speed) == (0,) for speed in range(9) for work in range(speed + 1))
 
 
 def check_horizon():
-    for energy in 1, 0:  # open point 15: number 9 "still uses 1"
+    for energy in 1, 0:  # decision 15: number 9 "still uses 1"
         speeds = [(0, 0), (1, energy)]
         assert refuse_sheet(one_job(1, speeds, 57, (2, 0, 1))) == 0
         assert refuse_sheet(one_job(1, speeds, 58, (2, 0, 1))) == 9
@@ -133,7 +133,7 @@ def check_horizon():
 def check_number_12():
     sheet = one_job(1, [(0, 0), (1, 1)], 1, (1, 2, 1))
     assert plan_sheet(sheet) == (12, 2, 0, [NONE_VALUE] * 2 + [0] * 2, [255, 255])
-    # Open point 17: "buffers filled, N reported, least energy 0", though slot 1 has a
+    # Decision 17: "buffers filled, N reported, least energy 0", though slot 1 has a
     # value. The work of one arrival can be borne, that of two cannot.
     number, queue_count, least, values, plan = plan_sheet(
         one_job(2, [(0, 0), (1, 1)], 2, (1, 2, 2)))
@@ -181,7 +181,7 @@ def check_rows():
     for lent in plan, plan + [9]:
         assert row(SHEET_A, lent, 0) == plan[:12] and row(SHEET_A, lent, 1) == plan[12:]
         assert row(SHEET_A, lent, 2) == row(SHEET_A, lent, 4_294_967_295) == []
-    # Open points 3 and 4: T times N bytes "whatever the slot", "never the bytes".
+    # Decisions 3 and 4: T times N bytes "whatever the slot", "never the bytes".
     assert row(SHEET_A, plan[:-1], 0) == row(SHEET_A, [], 0) == row(Sheet(), plan, 0) == []
     assert row(SHEET_A, [200] * 24, 1) == [200] * 12
 
@@ -204,7 +204,7 @@ def check_listing():
 
 
 def check_program():
-    # Open point 8: the first 512 bytes are judged, "which is never an accepted sheet".
+    # Decision 8: the first 512 bytes are judged, "which is never an accepted sheet".
     whole = bytes.fromhex(SHEET_A_BYTES)
     for data, number in [
         (b"", 1),
@@ -229,7 +229,7 @@ def check_program():
 
 
 def check_figure():
-    """Document 000's first figure, as 01 and open point 18 tell it."""
+    """Document 000's first figure, as 01 and decision 18 tell it."""
     queue = add_job((0,) * 6, 2, 4)
     assert queue == (0, 0, 0, 2, 2, 2)
     for speed, size, deadline in (1, 1, 5), (0, 2, 6), (2, 2, 4):
@@ -338,7 +338,7 @@ def both(sheet, plan, state, size, deadline):
 
 def check_worked_run():
     own = plan_of(SHEET_A)
-    for plan in own, own + [255, 7]:  # open point 3: "A longer plan is fine"
+    for plan in own, own + [255, 7]:  # decision 3: "A longer plan is fine"
         number, state = start(SHEET_A, at((0, 2)))
         assert (number, state) == (0, at((0, 2), 0, 0))
         assert speed(SHEET_A, plan, state) == (0, 1)
@@ -352,7 +352,7 @@ def check_worked_run():
 
 def check_states():
     plan = plan_of(SHEET_A)
-    largest = 4_294_967_295  # open point 5: "nothing wraps"
+    largest = 4_294_967_295  # decision 5: "nothing wraps"
     for totals in [(1, 0), (2, 1), (3, 3), (0, 5), (0, 2, 1), (0, 2, 2, 2, 2, 2),
                    (0, 0, 0, 0, 0, 1), (0, largest), (largest, largest)]:
         assert start(SHEET_A, at(totals)) == (13, State()), totals
@@ -360,11 +360,11 @@ def check_states():
     for slot, energy in (0, 1), (1, 5), (2, 9), (3, 0), (largest, largest):
         state = at((0, 2), slot, energy)
         assert both(SHEET_A, plan, state, 0, 1) == 13, state
-        # Open point 10: they "are not looked at".
+        # Decision 10: they "are not looked at".
         assert start(SHEET_A, state) == (0, at((0, 2)))
     # The energy that was there counts on.
     assert advance(SHEET_A, plan, at((1, 3), 1, 4), 0, 1) == (0, at((2, 2), 2, 5))
-    # Open point 9: "falls" is tested up to D, so (0, 2) and then zeros does not fall; with
+    # Decision 9: "falls" is tested up to D, so (0, 2) and then zeros does not fall; with
     # a D of 6 every position is tested.
     assert at((0, 2)) == State((0, 2, 0, 0, 0, 0), 0, 0) and State() == at(())
     assert start(SHEET_A, at((0, 2))) == (0, at((0, 2)))
@@ -372,14 +372,14 @@ def check_states():
     assert start(wide, at((0, 0, 0, 0, 0, 6))) == (0, at((0, 0, 0, 0, 0, 6)))
     for totals in (0, 0, 0, 0, 0, 7), (0, 0, 0, 0, 1):
         assert start(wide, at(totals)) == (13, State()), totals
-    # Open point 10: "a run can begin from what the last one left".
+    # Decision 10: "a run can begin from what the last one left".
     number, last = advance(SHEET_A, plan, at((0, 2), 1, 4), 2, 2)
     assert (number, last) == (0, at((2, 4), 2, 4))
     assert start(SHEET_A, last) == (0, at((2, 4)))
 
 
 def check_energies():
-    """Open point 2: 13 uses "the plain greatest over all speeds, 0 where all are 0"."""
+    """Decision 2: 13 uses "the plain greatest over all speeds, 0 where all are 0"."""
     sheet = one_job(2, [(0, 0), (1, 0)], 2, (1, 0, 1))
     plan = plan_of(sheet)
     assert speed(sheet, plan, at((0, 0), 1, 0)) == (0, 0)
@@ -394,7 +394,7 @@ def check_energies():
 
 
 def check_no_plan():
-    """Open point 9: "A queue that has no plan starts with 0", then 16."""
+    """Decision 9: "A queue that has no plan starts with 0", then 16."""
     sheet = one_job(2, [(0, 0), (2, 4)], 2, (1, 3, 2))
     plan = plan_of(sheet)
     assert start(sheet, at((2, 4), 7, 7)) == (0, at((2, 4)))
@@ -408,7 +408,7 @@ def check_no_plan():
 
 
 def check_damaged():
-    """Open point 11: 16 is not "inadmissible", and it comes before 15."""
+    """Decision 11: 16 is not "inadmissible", and it comes before 15."""
     state = at((0, 4))
     slow = [0] * 24
     assert speed(SHEET_A, slow, state) == (0, 0)
@@ -446,11 +446,11 @@ def check_order():
     ]:
         assert start(sheet, bad) == (number, State()), number
         assert both(sheet, [], bad, 0, 1) == number, number
-    # Open points 3 and 16: T times N bytes "whatever the slot, before 13 and 14".
+    # Decisions 3 and 16: T times N bytes "whatever the slot, before 13 and 14".
     for short in plan[:-1], plan[:12], []:
         for state in at((0, 2)), bad, end:
             assert both(SHEET_A, short, state, 0, 1) == 11
-    # Open point 16: "14 and speed 0, after 11 and 13; a slot above T is 13".
+    # Decision 16: "14 and speed 0, after 11 and 13; a slot above T is 13".
     for longer in plan, plan + [3] * 24:
         assert both(SHEET_A, longer, end, 1, 1) == 14
         for state in at((0, 2), 2, 9), at((2, 1), 2), at((0, 2, 1), 2), at((0, 2), 3), bad:
