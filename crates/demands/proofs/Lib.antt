@@ -14,3 +14,5 @@ pub mod Hopeless
 pub mod Stepping
 pub mod SpendsLeast
 pub mod InTime
+pub mod NoWay
+pub mod NoWrap

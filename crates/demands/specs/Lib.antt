@@ -3,3 +3,4 @@ pub mod Calls
 pub mod Numbers
 pub mod Runs
 pub mod InTime
+pub mod NoWrap
