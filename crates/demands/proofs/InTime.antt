@@ -33,7 +33,7 @@ use Rattle.jobs.proofs.Runs.{QueuesAlong, along-earliest, ends-on-time}
 use Rattle.jobs.proofs.Ways.{good-in-time, value-of-pool, byte-of-pool}
 use Rattle.demands.specs.Calls.{Plans}
 use Rattle.demands.specs.InTime.{slotAt, firstSlots, poolNow, InTimeAfter}
-use Rattle.demands.specs.Runs.{queueIn, Begins, stateAfter, queueAfter, Run, NeverRefused}
+use Rattle.demands.specs.Runs.{queueOfState, Begins, stateAfter, queueAfter, Run, NeverRefused}
 use Rattle.demands.proofs.Demand2.{value-right, byte-right, none-right}
 use Rattle.demands.proofs.Determined.{speed-is}
 use Rattle.demands.proofs.Stepping.{never-refused}
@@ -82,7 +82,7 @@ module _ {sheet : Sheet} {values₀ plan₀ values bytes : List ℕ} {a : PlanAn
     -- a run from their queue, as in Stepping.antt
     module _ {from : State} {arrivals : List ℕ} (run : Run sheet bytes from arrivals) (short : from .slot + length arrivals ≤ s .horizon)
         (entries : (k : ℕ) → k < length arrivals → getD arrivals k 0 < s .jobCount) (begins : Begins sheet from)
-        (their-queue : queueOfPool (s .bound) p ≡ queueIn sheet from) where
+        (their-queue : queueOfPool (s .bound) p ≡ queueOfState sheet from) where
       whole : NeverRefused sheet values bytes run
       whole = never-refused call planned run short entries begins
 

@@ -1,13 +1,8 @@
-pub mod Demand3
-pub mod Example
 pub mod Determined
 pub mod RoundTrip
 pub mod Demand2
 pub mod PairedPlans
 pub mod Worked
-pub mod InOrder
-pub mod SheetInOrder
-pub mod ReadInOrder
 pub mod Demand1
 pub mod Listing
 pub mod Hopeless

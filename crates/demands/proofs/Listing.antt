@@ -8,9 +8,9 @@ use mathlib.Core.Option.{Option, none, some, Option·getD}
 use native.Mathlib.Nat.{le-trans, sub-zero}
 use native.Mathlib.Omega.{arith}
 use lib.ListN.{length, getD, drop}
-use Rattle.model.specs.Bytes.{AreBytes}
 use Rattle.process.specs.Recursion.{UptoOr}
 use Rattle.process.proofs.Value.{value-some-is}
+use Rattle.model.specs.Bytes.{AreBytes}
 use Rattle.model.specs.Counted.{Counted, counted, weightAt, W, G}
 use Rattle.model.specs.Listing.{listing, listRefusal, list}
 use Rattle.model.specs.Plan.{processOf, IsValueAt, valueIn, placeAt, number12, Decided, FromEmpty, rowRefusal}

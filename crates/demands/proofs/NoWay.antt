@@ -26,7 +26,7 @@ use Rattle.stepper.specs.declared.state.State.{State}
 use Rattle.stepper.specs.declared.state.Stepped.{Stepped}
 use Rattle.stepper.specs.declared.state.Told.{Told}
 use Rattle.demands.specs.Calls.{Plans, Speeds, Advances}
-use Rattle.demands.specs.Runs.{queueIn}
+use Rattle.demands.specs.Runs.{queueOfState}
 use Rattle.demands.proofs.Demand2.{byte-right, none-right}
 use Rattle.demands.proofs.Determined.{state-same, speed-is, advance-is}
 use Rattle.demands.proofs.Stepping.{has-room}
@@ -44,9 +44,9 @@ module _ {sheet : Sheet} {values₀ plan₀ values bytes : List ℕ} {a : PlanAn
 
   -- a state that passes 13, from which no way is good. That its queue stands in six places is what the machine gives
   module _ (x : State) (six : length (x .queue) ≡ positions) (right : T (model.stateRight s (stateOf x)))
-      (no-way : (σ : Way) → Good (processOf s) (s .jobCount) (s .horizon - x .slot) (queueIn sheet x) σ → ⊥) where
+      (no-way : (σ : Way) → Good (processOf s) (s .jobCount) (s .horizon - x .slot) (queueOfState sheet x) σ → ⊥) where
     abbrev w : Queue
-    w = queueIn sheet x
+    w = queueOfState sheet x
 
     is-bearable : T (bearable (M s) w)
     is-bearable = held-bearable (M s) (s .bound) (x .queue) (state-right s (stateOf x) right .0)

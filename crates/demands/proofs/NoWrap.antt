@@ -26,7 +26,7 @@ use Rattle.stepper.specs.declared.state.State.{State}
 use Rattle.stepper.specs.declared.state.Stepped.{Stepped}
 use Rattle.stepper.specs.declared.state.Told.{Told}
 use Rattle.demands.specs.Calls.{Speeds, Advances}
-use Rattle.demands.specs.NoWrap.{work, IsLeft, IsAdded, IsCarried, Enough, NoneWraps}
+use Rattle.demands.specs.NoWrap.{work, IsLeft, IsAdded, IsCarried, SpeedEnough, NoneWraps}
 use Rattle.demands.proofs.Determined.{state-same, speed-is, advance-is}
 
 -- in numbers
@@ -65,7 +65,7 @@ module _ (sheet : Sheet) (bytes : List ℕ) (x : State) where
     ranges = accepted s (row-accepted s (length bytes) (speed-accepted s bytes before quiet .0) .0) .ranged
 
     -- and the plan byte is a sheet speed and at least w(1)
-    byte-right : Enough sheet x byte
+    byte-right : SpeedEnough sheet x byte
     byte-right =
         let right = speed-accepted s bytes before quiet .2 in
         record {
@@ -83,10 +83,10 @@ module _ (sheet : Sheet) (bytes : List ℕ) (x : State) where
         )
 
   -- speed: where it answers 0, a sheet speed that is at least w(1)
-  pub speed-enough : {b : Told} → Speeds x sheet bytes b → b .number ≡ 0 → Enough sheet x (b .speed)
+  pub speed-enough : {b : Told} → Speeds x sheet bytes b → b .number ≡ 0 → SpeedEnough sheet x (b .speed)
   speed-enough call e =
       let quiet = sym (speed-number s bytes before .0) ∙ sym (speed-is call .number-is) ∙ e in
-      subst (Enough sheet x) (sym (told-byte quiet call .1)) (byte-right quiet)
+      subst (SpeedEnough sheet x) (sym (told-byte quiet call .1)) (byte-right quiet)
 
   -- an advance by the arrival that is not refused, from a state whose queue stands in six places, which is what the machine gives
   module _ (size deadline : ℕ) (six : length (x .queue) ≡ positions) (zero : model.advanceRefusal s bytes before size deadline ≡ 0) where
@@ -179,7 +179,7 @@ module _ (sheet : Sheet) (bytes : List ℕ) (x : State) where
   -- advance: where it answers 0, the speed told is a sheet speed and at least w(1), and no count wraps
   pub no-count-wraps : {size deadline : ℕ} {told : Told} {b : Stepped} → length (x .queue) ≡ positions → Speeds x sheet bytes told →
       Advances x sheet bytes size deadline b → b .number ≡ 0 →
-      (told .number ≡ 0) × Enough sheet x (told .speed) × NoneWraps sheet x (told .speed) size deadline (b .state)
+      (told .number ≡ 0) × SpeedEnough sheet x (told .speed) × NoneWraps sheet x (told .speed) size deadline (b .state)
   no-count-wraps {size} {deadline} {told} {b} six asked call e =
       let promised = advance-is call in
       let zero = sym (advance-number s bytes before size deadline .0) ∙ sym (promised .number-is) ∙ e in

@@ -17,7 +17,7 @@ use Rattle.model.proofs.Stepping.{plannedWay, planned-least, spends-planned}
 use Rattle.planner.specs.declared.calls.PlanAnswer.{PlanAnswer}
 use Rattle.stepper.specs.declared.state.State.{State}
 use Rattle.demands.specs.Calls.{Plans}
-use Rattle.demands.specs.Runs.{queueIn, Begins, stateAfter, queueAfter, Run, NeverRefused, atStart, StartedRun}
+use Rattle.demands.specs.Runs.{queueOfState, Begins, stateAfter, queueAfter, Run, NeverRefused, atStart, StartedRun}
 use Rattle.demands.proofs.Stepping.{right-plan, going, long, never-refused, start-begins}
 
 module _ {sheet : Sheet} {values₀ plan₀ values bytes : List ℕ} {a : PlanAnswer} (call : Plans sheet values₀ plan₀ a values bytes)
@@ -33,7 +33,7 @@ module _ {sheet : Sheet} {values₀ plan₀ values bytes : List ℕ} {a : PlanAn
   spends-planned-way : (from : State) → Begins sheet from → (arrivals : List ℕ) (run : Run sheet bytes from arrivals) →
       from .slot + length arrivals ≡ s .horizon → ((k : ℕ) → k < length arrivals → getD arrivals k 0 < s .jobCount) →
       stateAfter from (run .stepped) (length arrivals) .energy ≡
-      from .energy + spent (processOf s) (queueIn sheet from) (plannedWay s (from .slot) (queueIn sheet from)) arrivals
+      from .energy + spent (processOf s) (queueOfState sheet from) (plannedWay s (from .slot) (queueOfState sheet from)) arrivals
   spends-planned-way from begins arrivals run last entries =
       whole .stands (length arrivals) (le-refl (length arrivals)) .energy-is ∙
       ap (λ (e : ℕ). from .energy + e)
@@ -54,27 +54,27 @@ module _ {sheet : Sheet} {values₀ plan₀ values bytes : List ℕ} {a : PlanAn
   -- one least good way from the state's queue over the slots left, such that every run to the horizon from there spends what that way
   -- spends along the run's entries
   pub spends-least : (from : State) → Begins sheet from →
-      (σ : Way) × IsLeast (processOf s) (s .jobCount) (weightAt s) (s .horizon - from .slot) (queueIn sheet from) σ ×
+      (σ : Way) × IsLeast (processOf s) (s .jobCount) (weightAt s) (s .horizon - from .slot) (queueOfState sheet from) σ ×
       ((arrivals : List ℕ) (run : Run sheet bytes from arrivals) → from .slot + length arrivals ≡ s .horizon →
       ((k : ℕ) → k < length arrivals → getD arrivals k 0 < s .jobCount) →
-      stateAfter from (run .stepped) (length arrivals) .energy ≡ from .energy + spent (processOf s) (queueIn sheet from) σ arrivals)
+      stateAfter from (run .stepped) (length arrivals) .energy ≡ from .energy + spent (processOf s) (queueOfState sheet from) σ arrivals)
   spends-least from begins =
-      let w = queueIn sheet from in
+      let w = queueOfState sheet from in
       (plannedWay s (from .slot) w, planned-least s passed (from .slot) w (begins .has-value), spends-planned-way from begins)
 
   -- from start: over all T slots, and nothing was spent before
   pub started-spends-least : (from : State) → Begins sheet (atStart from) →
-      (σ : Way) × IsLeast (processOf s) (s .jobCount) (weightAt s) (s .horizon) (queueIn sheet from) σ ×
+      (σ : Way) × IsLeast (processOf s) (s .jobCount) (weightAt s) (s .horizon) (queueOfState sheet from) σ ×
       ((arrivals : List ℕ) (run : StartedRun sheet bytes from arrivals) → length arrivals ≡ s .horizon →
       ((k : ℕ) → k < length arrivals → getD arrivals k 0 < s .jobCount) →
-      stateAfter (run .started .state) (run .run .stepped) (length arrivals) .energy ≡ spent (processOf s) (queueIn sheet from) σ arrivals)
+      stateAfter (run .started .state) (run .run .stepped) (length arrivals) .energy ≡ spent (processOf s) (queueOfState sheet from) σ arrivals)
   started-spends-least from begins =
       let (σ, least, spends) = spends-least (atStart from) begins in (
         σ,
-        subst (λ (k : ℕ). IsLeast (processOf s) (s .jobCount) (weightAt s) k (queueIn sheet from) σ) (sub-zero (s .horizon)) least,
+        subst (λ (k : ℕ). IsLeast (processOf s) (s .jobCount) (weightAt s) k (queueOfState sheet from) σ) (sub-zero (s .horizon)) least,
         λ arrivals run last entries.
             subst (λ (x : State). (r : Run sheet bytes x arrivals) →
-            stateAfter x (r .stepped) (length arrivals) .energy ≡ spent (processOf s) (queueIn sheet from) σ arrivals)
+            stateAfter x (r .stepped) (length arrivals) .energy ≡ spent (processOf s) (queueOfState sheet from) σ arrivals)
             (sym (start-begins call planned (run .starts) begins .1))
             (λ r. spends arrivals r (zero-add (length arrivals) ∙ last) entries ∙ zero-add _) (run .run),
       )

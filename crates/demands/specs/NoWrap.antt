@@ -36,7 +36,7 @@ pub record Fits (x : State) : Type 0 where
   pub energy-fits : x .energy < 4294967296
 
 -- a speed that is told in a state is on the sheet, and enough for what is due within one slot
-pub record Enough (sheet : Sheet) (x : State) (speed : ℕ) : Type 0 where
+pub record SpeedEnough (sheet : Sheet) (x : State) (speed : ℕ) : Type 0 where
   pub on-sheet : T (onSheet (counted sheet) speed)
   pub enough : work x 1 ≤ speed
 

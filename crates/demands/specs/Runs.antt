@@ -20,8 +20,8 @@ use Rattle.stepper.specs.declared.state.Told.{Told}
 use Rattle.demands.specs.Calls.{Starts, Speeds, Advances}
 
 -- w(1) to w(D) of a state
-abbrev pub queueIn : Sheet → State → Queue
-queueIn sheet x = queueOf (counted sheet) (stateOf x)
+abbrev pub queueOfState : Sheet → State → Queue
+queueOfState sheet x = queueOf (counted sheet) (stateOf x)
 
 -- a state that a run may begin with: "a queue that has one", a value at the state's slot; and 13 finds nothing else wrong with it. That a
 -- queue stands in six places is what the machine gives
@@ -29,7 +29,7 @@ pub record Begins (sheet : Sheet) (from : State) : Type 0 where
   pub six : length (from .queue) ≡ positions
   pub unused : T (unusedZero (counted sheet .bound) (from .queue))
   pub energy-upto : from .energy ≤ from .slot * greatestEnergy (counted sheet)
-  pub has-value : HasValue (counted sheet) (from .slot) (queueIn sheet from)
+  pub has-value : HasValue (counted sheet) (from .slot) (queueOfState sheet from)
 
 -- the state after k slots: the one that the run begins with, and then each one that the last advance handed back
 abbrev pub stateAfter : State → (ℕ → Stepped) → ℕ → State
@@ -47,7 +47,7 @@ pub record Run (sheet : Sheet) (bytes : List ℕ) (from : State) (arrivals : Lis
 
 -- w(1) to w(D) after k slots
 abbrev pub queueAfter : Sheet → State → (ℕ → Stepped) → ℕ → Queue
-queueAfter sheet from stepped k = queueIn sheet (stateAfter from stepped k)
+queueAfter sheet from stepped k = queueOfState sheet (stateAfter from stepped k)
 
 -- the state after k slots of a run
 pub record Stands (sheet : Sheet) (values bytes : List ℕ) {from : State} {arrivals : List ℕ} (run : Run sheet bytes from arrivals)
