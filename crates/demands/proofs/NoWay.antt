@@ -37,24 +37,35 @@ unfolding processOf
 good-at-end s w b σ [] e = b
 good-at-end s w b σ (i ∷ l) e = absurd e
 
+-- the queue of a state that passes 13 is bearable
+pub state-bearable : (sheet : Sheet) (x : State) → T (model.stateRight (counted sheet) (stateOf x)) →
+    T (bearable (M (counted sheet)) (queueOfState sheet x))
+state-bearable sheet x right =
+    let s = counted sheet in
+    held-bearable (M s) (s .bound) (x .queue) (state-right s (stateOf x) right .0)
+
 module _ {sheet : Sheet} {values₀ plan₀ values bytes : List ℕ} {a : PlanAnswer} (call : Plans sheet values₀ plan₀ a values bytes)
     (planned : planRefusal (counted sheet) (length values₀) (length plan₀) ≡ 0) where
   abbrev s : Counted
   s = counted sheet
 
-  -- a state that passes 13, from which no way is good. That its queue stands in six places is what the machine gives
+  -- the queue of a state has D positions. That it stands in six places is what the machine gives
+  pub state-long : (x : State) → length (x .queue) ≡ positions → length (queueOfState sheet x) ≡ s .bound
+  state-long x six =
+      let ranges = accepted s (plan-accepted s (length values₀) (length plan₀) planned .0) .ranged in
+      length-in (s .bound) (x .queue) (omega (arith, six, ranges .bound-high))
+
+  -- a state that passes 13, from which no way is good
   module _ (x : State) (six : length (x .queue) ≡ positions) (right : T (model.stateRight s (stateOf x)))
       (no-way : (σ : Way) → Good (processOf s) (s .jobCount) (s .horizon - x .slot) (queueOfState sheet x) σ → ⊥) where
     abbrev w : Queue
     w = queueOfState sheet x
 
     is-bearable : T (bearable (M s) w)
-    is-bearable = held-bearable (M s) (s .bound) (x .queue) (state-right s (stateOf x) right .0)
+    is-bearable = state-bearable sheet x right
 
     long : length w ≡ s .bound
-    long =
-        let ranges = accepted s (plan-accepted s (length values₀) (length plan₀) planned .0) .ranged in
-        length-in (s .bound) (x .queue) (omega (arith, six, ranges .bound-high))
+    long = state-long x six
 
     -- it is not at the horizon, where every way is good
     before-end : x .slot < s .horizon
