@@ -23,7 +23,7 @@ use Rattle.stepper.specs.Calls.{stateOf, IsStepped, IsTold}
 use Rattle.stepper.specs.declared.state.State.{State}
 use Rattle.stepper.specs.declared.state.Stepped.{Stepped}
 use Rattle.stepper.specs.declared.state.Told.{Told}
-use Rattle.demands.specs.Calls.{Reads, Writes, Plans, Rows, Lists, Starts, Speeds, Advances}
+use Rattle.demands.specs.Calls.{Reads, Writes, Plans, answered, Rows, Lists, Starts, Speeds, Advances}
 
 -- read
 
@@ -73,10 +73,6 @@ write-determined {before = before} {a = a} {b = b} view first second =
     )
 
 -- plan
-
--- what a plan answers, as the model says it
-abbrev pub answered : PlanAnswer → model-plan.PlanAnswer
-answered a = record { number = a .number; queues = a .queues; least = a .least }
 
 -- what a plan promises of this sheet and this lent memory
 pub plan-is : {sheet : Sheet} {values₀ plan₀ values bytes : List ℕ} {answer : PlanAnswer} → Plans sheet values₀ plan₀ answer values bytes →

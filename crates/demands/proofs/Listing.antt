@@ -25,9 +25,9 @@ use Rattle.model.proofs.Rooms.{plan-accepted, row-fits}
 use Rattle.listing.proofs.Within.{listing-fits, listing-upto}
 use Rattle.listing.specs.declared.call.Listed.{Listed}
 use Rattle.planner.specs.declared.calls.PlanAnswer.{PlanAnswer}
-use Rattle.demands.specs.Calls.{Plans, Lists}
+use Rattle.demands.specs.Calls.{Plans, answered, Lists}
 use Rattle.demands.proofs.Demand2.{planned-by-number, planned-filled, answer-right}
-use Rattle.demands.proofs.Determined.{answered, list-is}
+use Rattle.demands.proofs.Determined.{list-is}
 
 -- the least energy that a plan of number 0 answers is the empty queue's value at slot 0
 least-is-value : (s : Counted) (a : model-plan.PlanAnswer) → FromEmpty s a → a .number ≡ 0 →

@@ -13,9 +13,8 @@ use Rattle.model.specs.declared.Sheet.{Sheet}
 use Rattle.model.proofs.Cases.{A-holds, hopeless-holds}
 use Rattle.model.proofs.Leaves.{decoded-same, decided-same, answer-same}
 use Rattle.planner.specs.declared.calls.PlanAnswer as code
-use Rattle.demands.specs.Calls.{Plans}
+use Rattle.demands.specs.Calls.{Plans, answered}
 use Rattle.demands.proofs.Demand2.{planned-by-room, planned-filled}
-use Rattle.demands.proofs.Determined.{answered}
 
 -- a plan of a sheet with the view s, which has n queues, lent room for both tables
 module _ {sheet : Sheet} {values₀ plan₀ values bytes : List ℕ} {a : code.PlanAnswer} (call : Plans sheet values₀ plan₀ a values bytes)

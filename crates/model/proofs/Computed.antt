@@ -138,7 +138,8 @@ firstFailing place (c ∷ rest) = check (test c) (suc place) then firstFailing (
 abbrev pub AllPass : List Case → Type 0
 AllPass l = firstFailing 0 l ≡ 0
 
--- the computation, list by list: where a list has a case that does not pass, the error is at that list's line, and tells the case's place
+-- the computation, list by list: where a list has a case that does not pass, the error is at that list's line and names it, and tells the
+-- case's place unless the list is too long to be computed for an error
 pub record EachListPasses : Type 0 where
   pub marked : AllPass casesP
   pub plans : AllPass casesOfPlans
