@@ -38,13 +38,13 @@ use Rattle.stepper.specs.Calls.{stateOf}
 use Rattle.stepper.specs.declared.state.State.{State}
 use Rattle.stepper.specs.declared.state.Stepped.{Stepped}
 use Rattle.stepper.specs.declared.state.Told.{Told}
-use Rattle.demands.specs.Calls.{Reads, Writes, Plans, Rows, Lists, Starts, Speeds, Advances}
-use Rattle.demands.specs.Numbers.{FailsFirst, Tells, Answers, AnswersOr12, IsValueOfEmpty, sheetIn, readLines}
+use Rattle.demands.specs.Calls.{Reads, Writes, Plans, answered, IsValueOfEmpty, Rows, Lists, Starts, Speeds, Advances}
+use Rattle.orders.specs.Numbers.{FailsFirst, Tells, Answers, AnswersOr12, sheetIn, readLines}
 use Rattle.demands.proofs.Demand2.{planned-filled}
-use Rattle.demands.proofs.Determined.{answered, read-is, write-is, plan-is, row-is, list-is, start-is, speed-is, advance-is}
-use Rattle.demands.proofs.InOrder.{all-zero, all-or-fails, later, answers, NumberedOr12, answers-or-12}
-use Rattle.demands.proofs.ReadInOrder.{read-number, read-zero, read-accepted}
-use Rattle.demands.proofs.SheetInOrder.{each-field, each-limit, each-of-sheet}
+use Rattle.demands.proofs.Determined.{read-is, write-is, plan-is, row-is, list-is, start-is, speed-is, advance-is}
+use Rattle.orders.proofs.InOrder.{all-zero, all-or-fails, later, answers, NumberedOr12, answers-or-12}
+use Rattle.orders.proofs.ReadInOrder.{read-number, read-zero, read-accepted}
+use Rattle.orders.proofs.SheetInOrder.{each-field, each-limit, each-of-sheet}
 
 -- read: "Reading goes field by field. .. then its own range is tested before the next field. After the last field: 3, 9, 10"
 module _ {bytes : List ℕ} {a : ReadSheet} (call : Reads bytes a) where

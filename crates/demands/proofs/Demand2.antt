@@ -21,8 +21,8 @@ use Rattle.model.specs.declared.Sheet.{Sheet}
 use Rattle.model.proofs.Queues.{number-below, number-place}
 use Rattle.model.proofs.Rooms.{plan-fits}
 use Rattle.planner.specs.declared.calls.PlanAnswer.{PlanAnswer}
-use Rattle.demands.specs.Calls.{Plans}
-use Rattle.demands.proofs.Determined.{answered, plan-is}
+use Rattle.demands.specs.Calls.{Plans, answered}
+use Rattle.demands.proofs.Determined.{plan-is}
 
 -- when a plan is not refused
 

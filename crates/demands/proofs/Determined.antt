@@ -24,7 +24,7 @@ use Rattle.stepper.specs.Calls.{stateOf, IsStepped, IsTold}
 use Rattle.stepper.specs.declared.state.State.{State}
 use Rattle.stepper.specs.declared.state.Stepped.{Stepped}
 use Rattle.stepper.specs.declared.state.Told.{Told}
-use Rattle.demands.specs.Calls.{Reads, Writes, Plans, Rows, Lists, Starts, Speeds, Advances}
+use Rattle.demands.specs.Calls.{Reads, Writes, Plans, answered, Rows, Lists, Starts, Speeds, Advances}
 
 -- read
 
@@ -74,10 +74,6 @@ write-determined {before = before} {a = a} {b = b} view first second =
     )
 
 -- plan
-
--- what a plan answers, as the model says it
-abbrev pub answered : PlanAnswer → model-plan.PlanAnswer
-answered a = record { number = a .number; queues = a .queues; least = a .least }
 
 -- what a plan promises of this sheet and this lent memory
 pub plan-is : {sheet : Sheet} {values₀ plan₀ values bytes : List ℕ} {answer : PlanAnswer} → Plans sheet values₀ plan₀ answer values bytes →
@@ -154,6 +150,10 @@ list-determined {least = least} {bytes = bytes} {before = before} {a = a} {b = b
           (one .written-is ∙ ap (λ (s : Counted). list s least bytes before .written) view ∙ sym (two .written-is)),
       one .buffer-is ∙ ap (λ (s : Counted). list s least bytes before .buffer) view ∙ sym (two .buffer-is),
     )
+
+-- a state in memory is what the model says of it
+pub state-same : {x y : State} → stateOf x ≡ stateOf y → x ≡ y
+state-same e = ap (λ (z : model-stepper.State). record { queue = z .queue; slot = z .slot; energy = z .energy }) e
 
 -- start and advance answer alike
 

@@ -1,59 +1,56 @@
--- What number 12 means: where the empty queue has no value at slot 0, no queue has one. So after a plan that answers 12 every start is refused
--- a speed at slot 0; rows of later slots may still hold speeds.
-use Prim.Native.Nat.{ℕ}
-use mathlib.Core.Path.{_≡_, refl, sym, _∙_}
+-- What number 12 means: where the empty queue has no value at slot 0, no queue has one (`twelve-is-hopeless`). So after a plan that answers 12
+-- every state at slot 0 that passes 13 is refused a speed with 16 (`twelve-is-16`); rows of later slots may still hold speeds.
+use Prim.Native.Nat.{ℕ, zero-le}
+use mathlib.Core.Path.{_≡_, sym, subst}
 use mathlib.Core.List.{List}
-use mathlib.Core.Logic.{inr}
-use mathlib.Core.Option.{some}
-use native.Mathlib.Nat.{le-refl}
-use native.Mathlib.Omega.{arith}
+use mathlib.Core.Option.{Option, none, some}
+use lib.Dec.{T}
 use lib.ListN.{length}
 use Rattle.model.specs.Counted.{Counted, counted}
-use Rattle.model.specs.Plan.{IsValueAt, planLines}
-use Rattle.model.specs.Queue.{Queue, emptyQueue}
-use Rattle.model.specs.Refusal.{sheetRefusal}
+use Rattle.model.specs.Plan.{IsValueAt, valueIn, placeOfQueue, planLines, planRefusal}
+use Rattle.model.specs.Queue.{Queue, positions}
+use Rattle.model.specs.Stepper.{stateRight}
 use Rattle.model.specs.declared.Sheet.{Sheet}
-use Rattle.model.proofs.Queues.{length-totals, total-empty}
 use Rattle.model.proofs.Rooms.{plan-accepted}
 use Rattle.planner.specs.declared.calls.PlanAnswer.{PlanAnswer}
-use Rattle.demands.specs.Calls.{Plans}
-use Rattle.demands.specs.Paired.{Paired, NowhereLonger}
+use Rattle.stepper.specs.Calls.{stateOf}
+use Rattle.stepper.specs.declared.state.State.{State}
+use Rattle.stepper.specs.declared.state.Told.{Told}
+use Rattle.pairs.proofs.Empty.{empty-has-value}
+use Rattle.orders.proofs.InOrder.{all-zero}
+use Rattle.demands.specs.Calls.{Plans, Speeds}
+use Rattle.demands.specs.Runs.{queueOfState}
 use Rattle.demands.proofs.Demand1.{plan-answers}
-use Rattle.demands.proofs.Demand3.{demand3}
-use Rattle.demands.proofs.InOrder.{all-zero}
+use Rattle.demands.proofs.Demand2.{value-right}
+use Rattle.demands.proofs.NoWay.{state-bearable, state-long, speed-is-16}
 
--- a sheet is paired with itself
-paired-self : (s : Counted) → sheetRefusal s ≡ 0 → Paired s s (λ i. i) (λ i. i)
-paired-self s e =
-    record {
-      first-accepted = e;
-      second-accepted = e;
-      same-bound = refl;
-      same-horizon = refl;
-      same-count = refl;
-      one-to-one =
-          record { there-below = λ i h. h; back-below = λ i h. h; back-there = λ i h. refl; there-back = λ i h. refl };
-      same-weight = λ i h. refl;
-      easier-job = λ i h. inr (le-refl _, le-refl _);
-      has-speed = λ speed t. t;
-      no-more-energy = λ speed t. le-refl _;
-    }
+module _ {sheet : Sheet} {values₀ plan₀ values bytes : List ℕ} {a : PlanAnswer} (call : Plans sheet values₀ plan₀ a values bytes)
+    (twelve : a .number ≡ 12) where
+  abbrev s : Counted
+  s = counted sheet
 
--- the empty queue is nowhere longer than any other
-empty-no-longer : (D : ℕ) (w : Queue) → length w ≡ D → NowhereLonger (emptyQueue D) w
-empty-no-longer D w long =
-    record {
-      positions = length-totals D (λ u. 0) ∙ sym long;
-      never-falls = λ u h. omega (arith, total-empty D u);
-      no-longer = λ u. omega (arith, total-empty D u);
-    }
+  -- the plan was not refused
+  planned : planRefusal s (length values₀) (length plan₀) ≡ 0
+  planned = all-zero (planLines s (length values₀) (length plan₀)) (plan-answers call .twelve .0 twelve .0)
 
--- where a plan answers 12, no queue has a value at slot 0
-pub twelve-is-hopeless : {sheet : Sheet} {values₀ plan₀ values bytes : List ℕ} {a : PlanAnswer} → Plans sheet values₀ plan₀ a values bytes →
-    a .number ≡ 12 → (w : Queue) → length w ≡ counted sheet .bound → (v : ℕ) → IsValueAt (counted sheet) 0 w (some v) → ⊥
-twelve-is-hopeless {sheet} {values₀} {plan₀} call e w long v value =
-    let s = counted sheet in
-    let tested = plan-answers call .twelve .0 e in
-    let fits = plan-accepted s (length values₀) (length plan₀) (all-zero (planLines s (length values₀) (length plan₀)) (tested .0)) in
-    let eased = demand3 s s (λ i. i) (λ i. i) (paired-self s (fits .0)) (emptyQueue (s .bound)) w (empty-no-longer (s .bound) w long) 0 v value in
-    tested .1 (eased .1 .way) (eased .1 .holds)
+  -- no queue has a value at slot 0
+  pub twelve-is-hopeless : (w : Queue) → length w ≡ s .bound → (v : ℕ) → IsValueAt s 0 w (some v) → ⊥
+  twelve-is-hopeless w long v value =
+      let fits = plan-accepted s (length values₀) (length plan₀) planned in
+      let least = empty-has-value s (fits .0) w long 0 v value .1 in
+      plan-answers call .twelve .0 twelve .1 (least .way) (least .holds)
+
+  -- so each of them has none there
+  none-at-start : (w : Queue) → length w ≡ s .bound → (r : Option ℕ) → IsValueAt s 0 w r → IsValueAt s 0 w none
+  none-at-start w long none is-none = is-none
+  none-at-start w long (some v) value = absurd (twelve-is-hopeless w long v value)
+
+  -- and a speed call at slot 0 answers 16
+  pub twelve-is-16 : (x : State) → length (x .queue) ≡ positions → T (stateRight s (stateOf x)) → x .slot ≡ 0 →
+      {b : Told} → Speeds x sheet bytes b → (b .number ≡ 16) × (b .speed ≡ 0)
+  twelve-is-16 x six right start asked =
+      let w = queueOfState sheet x in
+      let long = state-long call planned x six in
+      let value = value-right call planned w (state-bearable sheet x right) long 0 zero-le in
+      let none-there = none-at-start w long (valueIn values (placeOfQueue s 0 w)) value in
+      speed-is-16 call planned x six right (subst (λ (t : ℕ). IsValueAt s t w none) (sym start) none-there) asked

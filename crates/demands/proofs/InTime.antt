@@ -2,7 +2,7 @@
 -- some order of service beside them, miss no job's deadline and keep every pool finishable, none exactly where there is no such way
 -- (`value-in-time`, `none-in-time`), the byte the slowest speed that begins a least one (`byte-in-time`); and a run of the stepper with that
 -- plan, the jobs served earliest deadline first, is in time for every job (`run-in-time`). All of it follows from what is proved of totals.
-use Prim.Native.Nat.{ℕ, _-_, _≤_, _<_}
+use Prim.Native.Nat.{ℕ, _+_, _-_, _≤_, _<_}
 use mathlib.Core.Path.{_≡_, sym, ap, _∙_, subst}
 use mathlib.Core.List.{List}
 use mathlib.Core.Logic.{_↔_}
@@ -13,9 +13,9 @@ use lib.Dec.{T}
 use lib.ListN.{length, getD}
 use Rattle.process.specs.Ways.{Way}
 use Rattle.model.specs.Counted.{Counted, counted, M}
-use Rattle.model.specs.Plan.{HasValue, placeOfQueue, planRefusal, valueIn}
-use Rattle.model.specs.Queue.{Queue, total, bearable, positions, unusedZero}
-use Rattle.model.specs.Stepper.{queueOf, planByte}
+use Rattle.model.specs.Plan.{placeOfQueue, planRefusal, valueIn}
+use Rattle.model.specs.Queue.{Queue, total, bearable}
+use Rattle.model.specs.Stepper.{planByte}
 use Rattle.model.specs.declared.Sheet.{Sheet}
 use Rattle.model.proofs.Queues.{length-totals}
 use Rattle.model.proofs.Refusal.{Ranged, accepted}
@@ -32,8 +32,8 @@ use Rattle.jobs.proofs.Given.{misses-none-done}
 use Rattle.jobs.proofs.Runs.{QueuesAlong, along-earliest, ends-on-time}
 use Rattle.jobs.proofs.Ways.{good-in-time, value-of-pool, byte-of-pool}
 use Rattle.demands.specs.Calls.{Plans}
-use Rattle.demands.specs.InTime.{slotAt, slotsBefore, poolBefore, InTimeBefore}
-use Rattle.demands.specs.Runs.{stateBefore, queueBefore, Run, NeverRefused}
+use Rattle.demands.specs.InTime.{slotAt, firstSlots, poolNow, InTimeAfter}
+use Rattle.demands.specs.Runs.{queueOfState, Begins, stateAfter, queueAfter, Run, NeverRefused}
 use Rattle.demands.proofs.Demand2.{value-right, byte-right, none-right}
 use Rattle.demands.proofs.Determined.{speed-is}
 use Rattle.demands.proofs.Stepping.{never-refused}
@@ -80,29 +80,28 @@ module _ {sheet : Sheet} {values₀ plan₀ values bytes : List ℕ} {a : PlanAn
           (byte-right call planned (queueOfPool (s .bound) p) is-bearable long t h)
 
     -- a run from their queue, as in Stepping.antt
-    module _ {from : State} {arrivals : List ℕ} (run : Run sheet bytes from arrivals) (short : length arrivals ≤ s .horizon)
-        (entries : (t : ℕ) → t < length arrivals → getD arrivals t 0 < s .jobCount) (six : length (from .queue) ≡ positions)
-        (unused : T (unusedZero (s .bound) (from .queue))) (begins : HasValue s 0 (queueOf s (stateOf from)))
-        (their-queue : queueOfPool (s .bound) p ≡ queueOf s (stateOf from)) where
+    module _ {from : State} {arrivals : List ℕ} (run : Run sheet bytes from arrivals) (short : from .slot + length arrivals ≤ s .horizon)
+        (entries : (k : ℕ) → k < length arrivals → getD arrivals k 0 < s .jobCount) (begins : Begins sheet from)
+        (their-queue : queueOfPool (s .bound) p ≡ queueOfState sheet from) where
       whole : NeverRefused sheet values bytes run
-      whole = never-refused call planned run short entries six unused begins
+      whole = never-refused call planned run short entries begins
 
-      -- before slot t
+      -- after k slots
       abbrev queue : ℕ → Queue
-      queue t = queueBefore sheet (run .started) (run .stepped) t
+      queue k = queueAfter sheet from (run .stepped) k
 
       -- each speed told is at least w(1)
-      enough : (t : ℕ) → t < length arrivals → total (queue t) 1 ≤ run .told t .speed
-      enough t h =
-          let promised = speed-is (run .speeds t h) in
-          let x = stateOf (stateBefore (run .started) (run .stepped) t) in
-          let zero = sym (speed-number s bytes x .0) ∙ sym (promised .number-is) ∙ whole .steps t h .speed-answers in
+      enough : (k : ℕ) → k < length arrivals → total (queue k) 1 ≤ run .told k .speed
+      enough k h =
+          let promised = speed-is (run .speeds k h) in
+          let x = stateOf (stateAfter from (run .stepped) k) in
+          let zero = sym (speed-number s bytes x .0) ∙ sym (promised .number-is) ∙ whole .steps k h .speed-answers in
           let told = promised .speed-is ∙ ap (λ r. r .speed) (speed-by s bytes x zero) in
           omega (arith, told, byte-enough s x (planByte s bytes x) (speed-accepted s bytes x zero .2))
 
-      -- the slots before slot t, and the queues
-      along : (t : ℕ) → t ≤ length arrivals → QueuesAlong (s .bound) (slotAt sheet bytes run) queue t
-      along t h =
+      -- the run's first k slots, and the queues
+      along : (k : ℕ) → k ≤ length arrivals → QueuesAlong (s .bound) (slotAt sheet bytes run) queue k
+      along k h =
           record {
             deadline-low = λ u l. ranged .deadline-low (getD arrivals u 0) (entries u (le-trans l h));
             deadline-high = λ u l. ranged .deadline-high (getD arrivals u 0) (entries u (le-trans l h));
@@ -111,18 +110,17 @@ module _ {sheet : Sheet} {values₀ plan₀ values bytes : List ℕ} {a : PlanAn
           }
 
       -- the run is in time for every job
-      pub run-in-time : (t : ℕ) → t ≤ length arrivals → InTimeBefore sheet bytes run p t
-      run-in-time t h =
+      pub run-in-time : (k : ℕ) → k ≤ length arrivals → InTimeAfter sheet bytes run p k
+      run-in-time k h =
           let (misses-none, queue-is, slots-upto) =
-          along-earliest (s .bound) (ranged .bound-low) (slotAt sheet bytes run) queue t (along t h) p slots on-time
-          (their-queue ∙ sym (whole .first-queue)) in
-          let services = earliestRun p (slotsBefore sheet bytes run t) in
-          let right = subst (λ (w : Queue). T (bearable (M s) w)) (sym queue-is) (whole .stands t h .is-bearable) in
+          along-earliest (s .bound) (ranged .bound-low) (slotAt sheet bytes run) queue k (along k h) p slots on-time their-queue in
+          let services = earliestRun p (firstSlots sheet bytes run k) in
+          let right = subst (λ (w : Queue). T (bearable (M s) w)) (sym queue-is) (whole .stands k h .is-bearable) in
           record {
             misses-none = misses-none;
-            all-done = misses-none-done p (slotsBefore sheet bytes run t) services .0 misses-none .1;
+            all-done = misses-none-done p (firstSlots sheet bytes run k) services .0 misses-none .1;
             queue-is = queue-is;
             finishable =
-                bearable-finishable (s .bound) (ranged .bound-low) (poolBefore sheet bytes run p t) slots-upto
-                (ends-on-time p (slotsBefore sheet bytes run t) services misses-none) (M s) .0 right;
+                bearable-finishable (s .bound) (ranged .bound-low) (poolNow sheet bytes run p k) slots-upto
+                (ends-on-time p (firstSlots sheet bytes run k) services misses-none) (M s) .0 right;
           }

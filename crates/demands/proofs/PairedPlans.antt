@@ -14,9 +14,9 @@ use Rattle.model.specs.declared.Sheet.{Sheet}
 use Rattle.model.proofs.Longer.{bearable-carries}
 use Rattle.planner.specs.declared.calls.PlanAnswer.{PlanAnswer}
 use Rattle.demands.specs.Calls.{Plans}
-use Rattle.demands.specs.Paired.{Paired, NowhereLonger}
+use Rattle.pairs.specs.Paired.{Paired, NowhereLonger}
 use Rattle.demands.proofs.Demand2.{value-right}
-use Rattle.demands.proofs.Demand3.{largest, demand3}
+use Rattle.pairs.proofs.Demand3.{largest, demand3}
 
 pub plans-eased : {first second : Sheet} {there back : ℕ → ℕ} → Paired (counted first) (counted second) there back →
     {values₀ plan₀ values bytes : List ℕ} {a : PlanAnswer} → Plans first values₀ plan₀ a values bytes →

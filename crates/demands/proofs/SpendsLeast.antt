@@ -1,27 +1,24 @@
--- Demand 2, what stepping spends, over the actual contracts of the planner and the stepper: from any queue that has a value at slot 0 there
--- is one least good way such that every run to the horizon, along whatever entries, spends what that way spends along them.
-use Prim.Native.Nat.{ℕ, _≤_, _<_}
-use mathlib.Core.Path.{_≡_, ap, _∙_}
+-- Demand 2, what stepping spends, over the actual contracts of the planner and the stepper: from any state whose queue has a value at its
+-- slot there is one least good way over the slots left such that every run to the horizon, along whatever entries, spends what that way
+-- spends along them (`spends-least`). From start that is all that is spent (`started-spends-least`).
+use Prim.Native.Nat.{ℕ, _+_, _-_, _≤_, _<_}
+use mathlib.Core.Path.{_≡_, sym, ap, _∙_, subst}
 use mathlib.Core.List.{List}
-use native.Mathlib.Nat.{le-refl, le-of-lt}
+use native.Mathlib.Nat.{zero-add, sub-zero, le-refl, le-of-lt}
 use native.Mathlib.Omega.{arith}
-use lib.Dec.{T}
 use lib.ListN.{length, getD}
 use Rattle.process.specs.Ways.{Way, spent, IsLeast}
 use Rattle.model.specs.Counted.{Counted, counted, weightAt}
-use Rattle.model.specs.Plan.{processOf, planRefusal, HasValue}
-use Rattle.model.specs.Queue.{Queue, positions, unusedZero}
+use Rattle.model.specs.Plan.{processOf, planRefusal}
 use Rattle.model.specs.Refusal.{sheetRefusal}
-use Rattle.model.specs.Stepper.{queueOf}
 use Rattle.model.specs.declared.Sheet.{Sheet}
 use Rattle.model.proofs.Rooms.{plan-accepted}
 use Rattle.model.proofs.Stepping.{plannedWay, planned-least, spends-planned}
 use Rattle.planner.specs.declared.calls.PlanAnswer.{PlanAnswer}
-use Rattle.stepper.specs.Calls.{stateOf}
 use Rattle.stepper.specs.declared.state.State.{State}
 use Rattle.demands.specs.Calls.{Plans}
-use Rattle.demands.specs.Runs.{stateBefore, queueBefore, Run, NeverRefused}
-use Rattle.demands.proofs.Stepping.{right-plan, going, long, never-refused}
+use Rattle.demands.specs.Runs.{queueOfState, Begins, stateAfter, queueAfter, Run, NeverRefused, atStart, StartedRun}
+use Rattle.demands.proofs.Stepping.{right-plan, going, long, never-refused, start-begins}
 
 module _ {sheet : Sheet} {values₀ plan₀ values bytes : List ℕ} {a : PlanAnswer} (call : Plans sheet values₀ plan₀ a values bytes)
     (planned : planRefusal (counted sheet) (length values₀) (length plan₀) ≡ 0) where
@@ -32,36 +29,52 @@ module _ {sheet : Sheet} {values₀ plan₀ values bytes : List ℕ} {a : PlanAn
   passed : sheetRefusal s ≡ 0
   passed = plan-accepted s (length values₀) (length plan₀) planned .0
 
-  -- a queue that has a value, as a run begins with it
-  module _ (from : State) (six : length (from .queue) ≡ positions) (unused : T (unusedZero (s .bound) (from .queue)))
-      (begins : HasValue s 0 (queueOf s (stateOf from))) where
-    -- a run to the horizon spends what the planned way spends along its entries
-    spends-planned-way : (arrivals : List ℕ) (run : Run sheet bytes from arrivals) → length arrivals ≡ s .horizon →
-        ((t : ℕ) → t < length arrivals → getD arrivals t 0 < s .jobCount) →
-        stateBefore (run .started) (run .stepped) (length arrivals) .energy ≡
-        spent (processOf s) (queueOf s (stateOf from)) (plannedWay s (queueOf s (stateOf from))) arrivals
-    spends-planned-way arrivals run last entries =
-        whole .stands (length arrivals) (le-refl (length arrivals)) .energy-is ∙
-        spends-planned s passed bytes (right-plan call planned) arrivals last (queueBefore sheet (run .started) (run .stepped))
-        (λ t. run .told t .speed) (λ t h. (
-          long call planned run short entries six unused begins t (le-of-lt h),
-          going call planned run short entries six unused begins t (le-of-lt h) .has-value,
-          whole .steps t h .speed-is,
-          whole .steps t h .queue-is,
-        )) ∙
-        ap (λ (w : Queue). spent (processOf s) w (plannedWay s w) arrivals) (whole .first-queue)
-      where
-        short : length arrivals ≤ s .horizon
-        short = omega arith
+  -- a run to the horizon spends what the planned way spends along its entries
+  spends-planned-way : (from : State) → Begins sheet from → (arrivals : List ℕ) (run : Run sheet bytes from arrivals) →
+      from .slot + length arrivals ≡ s .horizon → ((k : ℕ) → k < length arrivals → getD arrivals k 0 < s .jobCount) →
+      stateAfter from (run .stepped) (length arrivals) .energy ≡
+      from .energy + spent (processOf s) (queueOfState sheet from) (plannedWay s (from .slot) (queueOfState sheet from)) arrivals
+  spends-planned-way from begins arrivals run last entries =
+      whole .stands (length arrivals) (le-refl (length arrivals)) .energy-is ∙
+      ap (λ (e : ℕ). from .energy + e)
+      (spends-planned s passed bytes (right-plan call planned) (from .slot) arrivals last (queueAfter sheet from (run .stepped))
+      (λ k. run .told k .speed) (λ k h. (
+        long call planned run short entries begins k (le-of-lt h),
+        going call planned run short entries begins k (le-of-lt h) .has-value,
+        whole .steps k h .speed-is,
+        whole .steps k h .queue-is,
+      )))
+    where
+      short : from .slot + length arrivals ≤ s .horizon
+      short = omega arith
 
-        whole : NeverRefused sheet values bytes run
-        whole = never-refused call planned run short entries six unused begins
+      whole : NeverRefused sheet values bytes run
+      whole = never-refused call planned run short entries begins
 
-    -- one least good way from the queue, such that every run to the horizon from it spends what that way spends along the run's entries
-    pub spends-least : (σ : Way) × IsLeast (processOf s) (s .jobCount) (weightAt s) (s .horizon) (queueOf s (stateOf from)) σ ×
-        ((arrivals : List ℕ) (run : Run sheet bytes from arrivals) → length arrivals ≡ s .horizon →
-        ((t : ℕ) → t < length arrivals → getD arrivals t 0 < s .jobCount) →
-        stateBefore (run .started) (run .stepped) (length arrivals) .energy ≡ spent (processOf s) (queueOf s (stateOf from)) σ arrivals)
-    spends-least =
-        let w = queueOf s (stateOf from) in
-        (plannedWay s w, planned-least s passed w begins, spends-planned-way)
+  -- one least good way from the state's queue over the slots left, such that every run to the horizon from there spends what that way
+  -- spends along the run's entries
+  pub spends-least : (from : State) → Begins sheet from →
+      (σ : Way) × IsLeast (processOf s) (s .jobCount) (weightAt s) (s .horizon - from .slot) (queueOfState sheet from) σ ×
+      ((arrivals : List ℕ) (run : Run sheet bytes from arrivals) → from .slot + length arrivals ≡ s .horizon →
+      ((k : ℕ) → k < length arrivals → getD arrivals k 0 < s .jobCount) →
+      stateAfter from (run .stepped) (length arrivals) .energy ≡ from .energy + spent (processOf s) (queueOfState sheet from) σ arrivals)
+  spends-least from begins =
+      let w = queueOfState sheet from in
+      (plannedWay s (from .slot) w, planned-least s passed (from .slot) w (begins .has-value), spends-planned-way from begins)
+
+  -- from start: over all T slots, and nothing was spent before
+  pub started-spends-least : (from : State) → Begins sheet (atStart from) →
+      (σ : Way) × IsLeast (processOf s) (s .jobCount) (weightAt s) (s .horizon) (queueOfState sheet from) σ ×
+      ((arrivals : List ℕ) (run : StartedRun sheet bytes from arrivals) → length arrivals ≡ s .horizon →
+      ((k : ℕ) → k < length arrivals → getD arrivals k 0 < s .jobCount) →
+      stateAfter (run .started .state) (run .run .stepped) (length arrivals) .energy ≡ spent (processOf s) (queueOfState sheet from) σ arrivals)
+  started-spends-least from begins =
+      let (σ, least, spends) = spends-least (atStart from) begins in (
+        σ,
+        subst (λ (k : ℕ). IsLeast (processOf s) (s .jobCount) (weightAt s) k (queueOfState sheet from) σ) (sub-zero (s .horizon)) least,
+        λ arrivals run last entries.
+            subst (λ (x : State). (r : Run sheet bytes x arrivals) →
+            stateAfter x (r .stepped) (length arrivals) .energy ≡ spent (processOf s) (queueOfState sheet from) σ arrivals)
+            (sym (start-begins call planned (run .starts) begins .1))
+            (λ r. spends arrivals r (zero-add (length arrivals) ∙ last) entries ∙ zero-add _) (run .run),
+      )

@@ -1,11 +1,12 @@
 -- Demand 2, its stepping half, over the actual contracts of the planner and the stepper: with any plan bytes that `plan` leaves, from any
--- queue that has a value at slot 0, along any list of the sheet's entries, start and every speed and advance before the horizon answer 0
--- (`never-refused`); at the horizon they answer 14 (`speed-at-end`, `advance-at-end`).
-use Prim.Native.Nat.{ℕ, zero, suc, _-_, _≤_, _<_}
-use mathlib.Core.Path.{_≡_, sym, ap, _∙_, subst}
+-- state whose queue has a value at its slot, along any list of the sheet's entries, every speed and advance before the horizon answers 0
+-- (`never-refused`); at the horizon they answer 14 (`speed-at-end`, `advance-at-end`). A start from a queue that has a value at slot 0 gives
+-- such a state (`start-begins`), so that a run from it is the case of slot 0 (`started-never-refused`).
+use Prim.Native.Nat.{ℕ, zero, suc, _+_, _-_, _≤_, _<_}
+use mathlib.Core.Path.{_≡_, refl, sym, ap, _∙_, subst}
 use mathlib.Core.List.{List}
 use mathlib.Core.Option.{Option, some}
-use native.Mathlib.Nat.{le-refl, le-trans, le-of-lt}
+use native.Mathlib.Nat.{add-zero, le-refl, le-of-lt}
 use native.Mathlib.Omega.{arith}
 use lib.Dec.{T}
 use lib.ListN.{length, getD}
@@ -13,7 +14,7 @@ use Rattle.process.specs.Sums.{sum}
 use Rattle.process.proofs.Definite.{value-unique}
 use Rattle.model.specs.Counted.{Counted, counted, sizeAt, deadlineAt, weightAt, energyOf, M}
 use Rattle.model.specs.Plan.{processOf, IsPlanByte, valueIn, planRefusal, rowRefusal, placeOfQueue, HasValue}
-use Rattle.model.specs.Queue.{Queue, bearable, positions, queueIn, oneSlot, unusedZero}
+use Rattle.model.specs.Queue.{Queue, bearable, queueIn, oneSlot}
 use Rattle.model.specs.Refusal.{sheetRefusal}
 use Rattle.model.specs.Stepper as model
 use Rattle.model.specs.declared.Sheet.{Sheet}
@@ -28,10 +29,10 @@ use Rattle.stepper.specs.Calls.{stateOf}
 use Rattle.stepper.specs.declared.state.State.{State}
 use Rattle.stepper.specs.declared.state.Stepped.{Stepped}
 use Rattle.stepper.specs.declared.state.Told.{Told}
-use Rattle.demands.specs.Calls.{Plans, Speeds, Advances}
-use Rattle.demands.specs.Runs.{stateBefore, Run, Stands, Steps, NeverRefused}
+use Rattle.demands.specs.Calls.{Plans, Starts, Speeds, Advances}
+use Rattle.demands.specs.Runs.{Begins, stateAfter, Run, Stands, Steps, NeverRefused, atStart, StartedRun, StartedNeverRefused}
 use Rattle.demands.proofs.Demand2.{planned-filled, value-right, byte-right}
-use Rattle.demands.proofs.Determined.{start-is, speed-is, advance-is}
+use Rattle.demands.proofs.Determined.{state-same, start-is, speed-is, advance-is}
 
 module _ {sheet : Sheet} {values₀ plan₀ values bytes : List ℕ} {a : PlanAnswer} (call : Plans sheet values₀ plan₀ a values bytes)
     (planned : planRefusal (counted sheet) (length values₀) (length plan₀) ≡ 0) where
@@ -41,7 +42,7 @@ module _ {sheet : Sheet} {values₀ plan₀ values bytes : List ℕ} {a : PlanAn
   -- what the plan gives
 
   -- the row call, and so the stepper, finds room in it
-  has-room : rowRefusal s (length bytes) ≡ 0
+  pub has-room : rowRefusal s (length bytes) ≡ 0
   has-room =
       let fits = plan-accepted s (length values₀) (length plan₀) planned in
       let same = planned-filled call planned .plan-length in
@@ -60,143 +61,136 @@ module _ {sheet : Sheet} {values₀ plan₀ values bytes : List ℕ} {a : PlanAn
       subst (λ (r : Option ℕ). IsPlanByte s t w r (getD bytes (placeOfQueue (counted sheet) t w) 0)) (value-there t w (le-of-lt l) long right h)
       (byte-right call planned w right long t l)
 
-  -- a run from a queue that has a value, along a list of the sheet's entries no longer than the horizon. That a queue stands in six places
-  -- is what the machine gives; "Positions past D are unused and zero"
-  module _ {from : State} {arrivals : List ℕ} (run : Run sheet bytes from arrivals) (short : length arrivals ≤ s .horizon)
-      (entries : (t : ℕ) → t < length arrivals → getD arrivals t 0 < s .jobCount) (six : length (from .queue) ≡ positions)
-      (unused : T (unusedZero (s .bound) (from .queue))) (begins : HasValue s 0 (model.queueOf s (stateOf from))) where
-    -- the state before slot t, as the model says it
+  -- the sheet is accepted
+  passed : sheetRefusal s ≡ 0
+  passed = row-accepted s (length bytes) has-room .0
+
+  -- what the stepper's laws ask of a state is what a run asks of the one that it begins with
+  begins-going : (x : State) → Begins sheet x → Going s (x .slot) (stateOf x)
+  begins-going x begins =
+      record {
+        six = begins .six;
+        right = stepping.right-with-value s passed (x .slot) (stateOf x) (begins .unused) (begins .has-value);
+        at-slot = refl;
+        energy-upto = begins .energy-upto;
+        has-value = begins .has-value;
+      }
+
+  -- a run from a state that has a value at its slot, along a list of the sheet's entries that ends at the horizon or before it
+  module _ {from : State} {arrivals : List ℕ} (run : Run sheet bytes from arrivals) (short : from .slot + length arrivals ≤ s .horizon)
+      (entries : (k : ℕ) → k < length arrivals → getD arrivals k 0 < s .jobCount) (begins : Begins sheet from) where
+    -- the state after k slots, as the model says it
     abbrev state : ℕ → model.State
-    state t = stateOf (stateBefore (run .started) (run .stepped) t)
-
-    -- the sheet is accepted
-    passed : sheetRefusal s ≡ 0
-    passed = row-accepted s (length bytes) has-room .0
-
-    -- start
-
-    begun : (run .started .number ≡ 0) × (state 0 ≡ record { queue = from .queue; slot = 0; energy = 0 }) × Going s 0 (state 0)
-    begun =
-        let promised = start-is (run .starts) in
-        let x = stateOf from in
-        let law = stepping.started s passed x six (stepping.right-with-value s passed x unused begins) begins in
-        let state-is = promised .state-is ∙ ap (λ (r : model.Stepped). r .state) (law .0) in (
-          promised .number-is ∙ ap (λ (r : model.Stepped). r .number) (law .0),
-          state-is,
-          subst (Going s 0) (sym state-is) (law .1),
-        )
+    state k = stateOf (stateAfter from (run .stepped) k)
 
     -- one slot
 
-    module _ (t : ℕ) (h : t < length arrivals) (g : Going s t (state t)) where
+    module _ (k : ℕ) (h : k < length arrivals) (g : Going s (from .slot + k) (state k)) where
       -- the plan's speed for the state, and the arrival's size and deadline
       abbrev byte : ℕ
-      byte = model.planByte s bytes (state t)
+      byte = model.planByte s bytes (state k)
 
       abbrev size : ℕ
-      size = sizeAt s (getD arrivals t 0)
+      size = sizeAt s (getD arrivals k 0)
 
       abbrev deadline : ℕ
-      deadline = deadlineAt s (getD arrivals t 0)
+      deadline = deadlineAt s (getD arrivals k 0)
 
-      before-end : t < s .horizon
+      before-end : from .slot + k < s .horizon
       before-end = omega arith
 
       -- the speed call
-      told-so : (run .told t .number ≡ 0) × (run .told t .speed ≡ byte)
+      told-so : (run .told k .number ≡ 0) × (run .told k .speed ≡ byte)
       told-so =
-          let promised = speed-is (run .speeds t h) in
-          let law = stepping.told s bytes has-room right-plan t before-end (state t) g in (
+          let promised = speed-is (run .speeds k h) in
+          let law = stepping.told s bytes has-room right-plan (from .slot + k) before-end (state k) g in (
             promised .number-is ∙ ap (λ (r : model.Told). r .number) law,
             promised .speed-is ∙ ap (λ (r : model.Told). r .speed) law,
           )
 
       -- the advance
-      stepped-so : (run .stepped t .number ≡ 0) × (state (suc t) ≡ model.moved s (state t) byte size deadline) ×
-          Going s (suc t) (state (suc t))
+      stepped-so : (run .stepped k .number ≡ 0) × (state (suc k) ≡ model.moved s (state k) byte size deadline) ×
+          Going s (from .slot + suc k) (state (suc k))
       stepped-so =
-          let promised = advance-is (run .advances t h) in
-          let law = stepping.stepped s bytes has-room right-plan t before-end (state t) g (getD arrivals t 0) (entries t h) in
-          let state-is = promised .state-is ∙ ap (λ (r : model.Stepped). r .state) (law .0) in (
+          let promised = advance-is (run .advances k h) in
+          let law = stepping.stepped s bytes has-room right-plan (from .slot + k) before-end (state k) g (getD arrivals k 0) (entries k h) in
+          let state-is = promised .state-is ∙ ap (λ (r : model.Stepped). r .state) (law .0) in
+          let next : suc (from .slot + k) ≡ from .slot + suc k = omega arith in (
             promised .number-is ∙ ap (λ (r : model.Stepped). r .number) (law .0),
             state-is,
-            subst (Going s (suc t)) (sym state-is) (law .1),
+            subst (λ (t : ℕ). Going s t (state (suc k))) next (subst (Going s (suc (from .slot + k))) (sym state-is) (law .1)),
           )
 
       -- so the next queue is what the slot at the speed told, and the arrival, make of this one
-      next-queue : length (model.queueOf s (state t)) ≡ s .bound →
-          model.queueOf s (state (suc t)) ≡ oneSlot (model.queueOf s (state t)) (run .told t .speed) size deadline
+      next-queue : length (model.queueOf s (state k)) ≡ s .bound →
+          model.queueOf s (state (suc k)) ≡ oneSlot (model.queueOf s (state k)) (run .told k .speed) size deadline
       next-queue long =
-          let w = model.queueOf s (state t) in
-          ap (λ (x : model.State). queueIn (s .bound) (x .queue)) (stepped-so .1 ∙ moved-by s (state t) byte size deadline) ∙
+          let w = model.queueOf s (state k) in
+          ap (λ (x : model.State). queueIn (s .bound) (x .queue)) (stepped-so .1 ∙ moved-by s (state k) byte size deadline) ∙
           in-first-places (s .bound) (oneSlot w byte size deadline) (length-slot w byte size deadline ∙ long)
           (accepted s passed .ranged .bound-high) ∙
           ap (λ (speed : ℕ). oneSlot w speed size deadline) (sym (told-so .1))
 
-    -- stepping goes on before every slot
-    pub going : (t : ℕ) → t ≤ length arrivals → Going s t (state t)
-    going zero h = begun .2
-    going (suc t) h = stepped-so t h (going t (le-of-lt h)) .2
+    -- stepping goes on after any number of slots
+    pub going : (k : ℕ) → k ≤ length arrivals → Going s (from .slot + k) (state k)
+    going zero h = subst (λ (t : ℕ). Going s t (stateOf from)) (sym (add-zero (from .slot))) (begins-going from begins)
+    going (suc k) h = stepped-so k h (going k (le-of-lt h)) .2
 
-    -- the energy spent is the sum of the energies
-    energy-sum : (t : ℕ) → t ≤ length arrivals → state t .energy ≡ sum (λ u. energyOf s (run .told u .speed)) t
+    -- the energy spent grows by the energies
+    energy-sum : (k : ℕ) → k ≤ length arrivals → state k .energy ≡ from .energy + sum (λ j. energyOf s (run .told j .speed)) k
     unfolding sum
-    energy-sum zero h = ap (λ (x : model.State). x .energy) (begun .1)
-    energy-sum (suc t) h =
-        let g = going t (le-of-lt h) in
-        let next = stepped-so t h g .1 ∙ moved-by s (state t) (byte t h g) (size t h g) (deadline t h g) in
-        let spent = ap (energyOf s) (told-so t h g .1) in
-        omega (arith, ap (λ (x : model.State). x .energy) next, energy-sum t (le-of-lt h), spent)
+    energy-sum zero h = sym (add-zero (from .energy))
+    energy-sum (suc k) h =
+        let g = going k (le-of-lt h) in
+        let next = stepped-so k h g .1 ∙ moved-by s (state k) (byte k h g) (size k h g) (deadline k h g) in
+        let spent = ap (energyOf s) (told-so k h g .1) in
+        omega (arith, ap (λ (x : model.State). x .energy) next, energy-sum k (le-of-lt h), spent)
 
     -- the queue has D positions
-    pub long : (t : ℕ) → t ≤ length arrivals → length (model.queueOf s (state t)) ≡ s .bound
-    long t h = length-in (s .bound) (state t .queue) (omega (arith, going t h .six, accepted s passed .ranged .bound-high))
+    pub long : (k : ℕ) → k ≤ length arrivals → length (model.queueOf s (state k)) ≡ s .bound
+    long k h = length-in (s .bound) (state k .queue) (omega (arith, going k h .six, accepted s passed .ranged .bound-high))
 
-    -- the state before slot t
-    stands-so : (t : ℕ) → t ≤ length arrivals → Stands sheet values bytes run t
-    stands-so t h =
-        let g = going t h in
-        let right = held-bearable (M s) (s .bound) (state t .queue) (g .right) in
+    -- the state after k slots
+    stands-so : (k : ℕ) → k ≤ length arrivals → Stands sheet values bytes run k
+    stands-so k h =
+        let g = going k h in
+        let right = held-bearable (M s) (s .bound) (state k .queue) (g .right) in
+        let upto : from .slot + k ≤ s .horizon = omega arith in
         record {
           slot-is = g .at-slot;
-          energy-is = energy-sum t h;
+          energy-is = energy-sum k h;
           is-bearable = right;
-          has-value = (g .has-value .0, value-there t (model.queueOf s (state t)) (le-trans h short) (long t h) right (g .has-value));
+          has-value =
+              (g .has-value .0, value-there (from .slot + k) (model.queueOf s (state k)) upto (long k h) right (g .has-value));
         }
 
-    -- slot t
-    steps-so : (t : ℕ) → t < length arrivals → Steps sheet bytes run t
-    steps-so t h =
-        let g = going t (le-of-lt h) in
-        let w = model.queueOf s (state t) in
-        let told = told-so t h g in
-        let at-slot = byte-at s bytes (state t) ∙ ap (λ (u : ℕ). getD bytes (placeOfQueue (counted sheet) u w) 0) (g .at-slot) in
+    -- the slot that follows
+    steps-so : (k : ℕ) → k < length arrivals → Steps sheet bytes run k
+    steps-so k h =
+        let g = going k (le-of-lt h) in
+        let w = model.queueOf s (state k) in
+        let told = told-so k h g in
+        let at-slot = byte-at s bytes (state k) ∙ ap (λ (u : ℕ). getD bytes (placeOfQueue (counted sheet) u w) 0) (g .at-slot) in
         record {
           speed-answers = told .0;
           speed-is = told .1 ∙ at-slot;
-          advance-answers = stepped-so t h g .0;
-          queue-is = next-queue t h g (long t (le-of-lt h));
+          advance-answers = stepped-so k h g .0;
+          queue-is = next-queue k h g (long k (le-of-lt h));
         }
 
-    -- start and every speed and advance before the horizon answer 0
+    -- every speed and advance before the horizon answers 0
     pub never-refused : NeverRefused sheet values bytes run
-    never-refused =
-        record {
-          start-answers = begun .0;
-          first-queue = ap (λ (x : model.State). queueIn (s .bound) (x .queue)) (begun .1);
-          stands = stands-so;
-          steps = steps-so;
-        }
+    never-refused = record { stands = stands-so; steps = steps-so }
 
-    -- at the horizon, after a run along T entries, the answer is 14, whatever arrives
+    -- at the horizon, after a run along as many entries as there were slots left, the answer is 14, whatever arrives
 
-    module _ (last : length arrivals ≡ s .horizon) where
+    module _ (last : from .slot + length arrivals ≡ s .horizon) where
       -- stepping has come to the horizon
       going-at-end : Going s (s .horizon) (state (length arrivals))
       going-at-end = subst (λ (t : ℕ). Going s t (state (length arrivals))) last (going (length arrivals) (le-refl (length arrivals)))
 
       -- a speed call
-      pub speed-at-end : {b : Told} → Speeds (stateBefore (run .started) (run .stepped) (length arrivals)) sheet bytes b →
+      pub speed-at-end : {b : Told} → Speeds (stateAfter from (run .stepped) (length arrivals)) sheet bytes b →
           (b .number ≡ 14) × (b .speed ≡ 0)
       speed-at-end end =
           let law = stepping.ended s bytes (state (length arrivals)) has-room going-at-end .0 in
@@ -207,11 +201,34 @@ module _ {sheet : Sheet} {values₀ plan₀ values bytes : List ℕ} {a : PlanAn
 
       -- an advance, which hands back the state that it got
       pub advance-at-end : {size deadline : ℕ} {b : Stepped} →
-          Advances (stateBefore (run .started) (run .stepped) (length arrivals)) sheet bytes size deadline b →
-          (b .number ≡ 14) × (stateOf (b .state) ≡ state (length arrivals))
+          Advances (stateAfter from (run .stepped) (length arrivals)) sheet bytes size deadline b →
+          (b .number ≡ 14) × (b .state ≡ stateAfter from (run .stepped) (length arrivals))
       advance-at-end {size = size} {deadline = deadline} end =
           let law = stepping.ended s bytes (state (length arrivals)) has-room going-at-end .1 size deadline in
           let promised = advance-is end in (
             promised .number-is ∙ ap (λ (r : model.Stepped). r .number) law,
-            promised .state-is ∙ ap (λ (r : model.Stepped). r .state) law,
+            state-same (promised .state-is ∙ ap (λ (r : model.Stepped). r .state) law),
           )
+
+  -- start, from a queue that has a value at slot 0, answers 0 and gives the state that a run may begin with
+  pub start-begins : {from : State} {b : Stepped} → Starts from sheet b → Begins sheet (atStart from) →
+      (b .number ≡ 0) × (b .state ≡ atStart from)
+  start-begins {from = from} {b = b} starts begins =
+      let promised = start-is starts in
+      let law = stepping.started s passed (stateOf from) (begins-going (atStart from) begins .right) in (
+        promised .number-is ∙ ap (λ (r : model.Stepped). r .number) law,
+        state-same (promised .state-is ∙ ap (λ (r : model.Stepped). r .state) law),
+      )
+
+  -- so a run from start is the case of slot 0
+  pub started-never-refused : {from : State} {arrivals : List ℕ} (run : StartedRun sheet bytes from arrivals) →
+      length arrivals ≤ s .horizon → ((k : ℕ) → k < length arrivals → getD arrivals k 0 < s .jobCount) → Begins sheet (atStart from) →
+      StartedNeverRefused sheet values bytes run
+  started-never-refused run short entries begins =
+      let gives = start-begins (run .starts) begins in
+      let at-zero = ap (λ (x : State). x .slot) (gives .1) in
+      record {
+        start-answers = gives .0;
+        start-gives = gives .1;
+        never-refused = never-refused (run .run) (omega (arith, at-zero)) entries (subst (Begins sheet) (sym (gives .1)) begins);
+      }

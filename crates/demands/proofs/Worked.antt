@@ -5,7 +5,7 @@ use mathlib.Core.Path.{_≡_, sym, ap, _∙_, subst}
 use mathlib.Core.List.{List, [], _∷_}
 use native.Mathlib.Omega.{arith}
 use lib.ListN.{length, getD}
-use Rattle.model.specs.Cases.{A, A0, A1, valuesA0, valuesA1, hopeless, none64, planned, Holds, casesOfA, casesOfHopeless}
+use Rattle.model.specs.Cases.{A, A0, A1, valuesA0, valuesA1, hopeless, none64, planned, Holds, casesOfA, casesOfHopeless, IsPlanOfA, IsPlanOfHopeless}
 use Rattle.model.specs.Counted.{Counted, counted}
 use Rattle.model.specs.Plan.{valueIn, placeAt, valuesNeeded, planNeeded, PlanAnswer, FromEmpty, Filled}
 use Rattle.model.specs.Refusal.{N, sheetRefusal}
@@ -13,9 +13,8 @@ use Rattle.model.specs.declared.Sheet.{Sheet}
 use Rattle.model.proofs.Cases.{A-holds, hopeless-holds}
 use Rattle.model.proofs.Leaves.{decoded-same, decided-same, answer-same}
 use Rattle.planner.specs.declared.calls.PlanAnswer as code
-use Rattle.demands.specs.Calls.{Plans}
+use Rattle.demands.specs.Calls.{Plans, answered}
 use Rattle.demands.proofs.Demand2.{planned-by-room, planned-filled}
-use Rattle.demands.proofs.Determined.{answered}
 
 -- a plan of a sheet with the view s, which has n queues, lent room for both tables
 module _ {sheet : Sheet} {values₀ plan₀ values bytes : List ℕ} {a : code.PlanAnswer} (call : Plans sheet values₀ plan₀ a values bytes)
@@ -46,12 +45,6 @@ module _ {sheet : Sheet} {values₀ plan₀ values bytes : List ℕ} {a : code.P
   answer-given number least right =
       answer-same s (answered a) (record { number = number; queues = n; least = least }) (filled .queues ∙ many) (filled .empty) right
 
--- 01's values of both slots, the plan bytes of its listing, and the header's numbers
-pub record IsPlanOfA (values bytes : List ℕ) (answer : PlanAnswer) : Type 0 where
-  pub slot-0 : (i : ℕ) → i < 12 → (getD values i 0 ≡ getD valuesA0 i 0) × (getD bytes i 0 ≡ getD A0 i 0)
-  pub slot-1 : (i : ℕ) → i < 12 → (getD values (12 + i) 0 ≡ getD valuesA1 i 0) × (getD bytes (12 + i) 0 ≡ getD A1 i 0)
-  pub answer-is : answer ≡ record { number = 0; queues = 12; least = 0 }
-
 -- sheet A, planned in any lent memory with room, leaves and answers this
 pub plan-of-A : {sheet : Sheet} {values₀ plan₀ values bytes : List ℕ} {a : code.PlanAnswer} → Plans sheet values₀ plan₀ a values bytes →
     counted sheet ≡ A → 36 ≤ length values₀ → 24 ≤ length plan₀ → IsPlanOfA values bytes (answered a)
@@ -67,12 +60,7 @@ plan-of-A call view h k =
       answer-is = answer-given call A view accepted 12 (answers .1) h k 0 0 (answers .0);
     }
 
--- "P: D 1, speeds 0 and 1 with energies 0 and 1, T 1, one job (1, 2, 1): number 12, plan bytes 255 255"
-pub record IsPlanOfHopeless (values bytes : List ℕ) (answer : PlanAnswer) : Type 0 where
-  pub slot-0 : (i : ℕ) → i < 2 → (getD values i 0 ≡ getD (none64 ∷ none64 ∷ []) i 0) × (getD bytes i 0 ≡ getD (255 ∷ 255 ∷ []) i 0)
-  pub answer-is : answer ≡ record { number = 12; queues = 2; least = 0 }
-
--- that sheet, planned in any lent memory with room, leaves and answers this
+-- the sheet that gives 12, planned in any lent memory with room, leaves and answers this
 pub plan-of-hopeless : {sheet : Sheet} {values₀ plan₀ values bytes : List ℕ} {a : code.PlanAnswer} → Plans sheet values₀ plan₀ a values bytes →
     counted sheet ≡ hopeless → 4 ≤ length values₀ → 2 ≤ length plan₀ → IsPlanOfHopeless values bytes (answered a)
 unfolding casesOfHopeless

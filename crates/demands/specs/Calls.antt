@@ -3,11 +3,16 @@
 use Prim.Native.Nat.{ℕ}
 use mathlib.Core.Path.{_≡_}
 use mathlib.Core.List.{List}
+use mathlib.Core.Option.{Option}
 use borrow.Fn.Kinds.{Dens, resT, endedOf}
 use contract.Lifetimes.{Lfts}
 use denote.Ref.{now}
 use lib.ListN.{length}
 use denote.Triple.Clauses.{AtExit}
+use Rattle.model.specs.Counted.{Counted}
+use Rattle.model.specs.Plan.{IsValueAt}
+use Rattle.model.specs.Plan as model-plan
+use Rattle.model.specs.Queue.{emptyQueue}
 use Rattle.model.specs.declared.Sheet.{Sheet}
 use Rattle.reader.specs.declared.ReadSheet.{ReadSheet}
 use Rattle.writer.specs.declared.Written.{Written}
@@ -67,6 +72,14 @@ pub record Plans (sheet : Sheet) (values₀ plan₀ : List ℕ) (answer : PlanAn
   pub values-after : now (at-exit .1 .0) ≡ values
   pub plan-after : now (at-exit .1 .1 .0) ≡ bytes
   pub contract : plan.Post lifetimes lent answer at-exit
+
+-- what a plan answers, as the model says it
+abbrev pub answered : PlanAnswer → model-plan.PlanAnswer
+answered a = record { number = a .number; queues = a .queues; least = a .least }
+
+-- "12: planned, but the empty queue at slot 0 has none": the value by which `plan` tells 12
+abbrev pub IsValueOfEmpty : Counted → Option ℕ → Type 0
+IsValueOfEmpty s r = IsValueAt s 0 (emptyQueue (s .bound)) r
 
 -- `row` was given this sheet, lent this plan and asked for this slot; it answered this part
 pub record Rows (sheet : Sheet) (bytes : List ℕ) (slot : ℕ) (part : List ℕ) : Type 0 where

@@ -1,5 +1,5 @@
--- A run of the stepper as single jobs see it: those that wait at the start, and those that come, are served earliest deadline first at the
--- speeds told.
+-- A run of the stepper as single jobs see it: those that wait where it begins, and those that come, are served earliest deadline first at
+-- the speeds told.
 use Prim.Native.Nat.{ℕ}
 use mathlib.Core.Path.{_≡_}
 use mathlib.Core.List.{List}
@@ -12,28 +12,28 @@ use Rattle.jobs.specs.InTime.{slotOf}
 use Rattle.jobs.specs.Pool.{Pool, queueOfPool}
 use Rattle.jobs.specs.Runs.{Slot, poolAfter, earliestRun, EarliestFirst, Finishable}
 use Rattle.stepper.specs.declared.state.State.{State}
-use Rattle.demands.specs.Runs.{queueBefore, Run}
+use Rattle.demands.specs.Runs.{queueAfter, Run}
 
 module _ (sheet : Sheet) (bytes : List ℕ) {from : State} {arrivals : List ℕ} (run : Run sheet bytes from arrivals) where
-  -- slot t: the speed told, and then the arrival
+  -- the slot that follows k slots: the speed told, and then the arrival
   abbrev pub slotAt : ℕ → Slot
-  slotAt t = slotOf (counted sheet) (run .told t .speed) (getD arrivals t 0)
+  slotAt k = slotOf (counted sheet) (run .told k .speed) (getD arrivals k 0)
 
-  -- the slots before slot t
-  abbrev pub slotsBefore : ℕ → List Slot
-  slotsBefore t = listed slotAt t
+  -- the run's first k slots
+  abbrev pub firstSlots : ℕ → List Slot
+  firstSlots k = listed slotAt k
 
-  -- the jobs before slot t, where p waited at the start
-  abbrev pub poolBefore : Pool → ℕ → Pool
-  poolBefore p t = poolAfter p (slotsBefore t) (earliestRun p (slotsBefore t))
+  -- the jobs after k slots, where p waited as the run began
+  abbrev pub poolNow : Pool → ℕ → Pool
+  poolNow p k = poolAfter p (firstSlots k) (earliestRun p (firstSlots k))
 
-  -- before slot t
-  pub record InTimeBefore (p : Pool) (t : ℕ) : Type 0 where
+  -- after k slots
+  pub record InTimeAfter (p : Pool) (k : ℕ) : Type 0 where
     -- no job has been late
-    pub misses-none : EarliestFirst p (slotsBefore t)
-    -- each job that was due by now, whether it waited at the start or has come since, was given all its work by its deadline
-    pub all-done : EachJob ByDeadline p (slotsBefore t) (earliestRun p (slotsBefore t))
+    pub misses-none : EarliestFirst p (firstSlots k)
+    -- each job that was due by now, whether it waited as the run began or has come since, was given all its work by its deadline
+    pub all-done : EachJob ByDeadline p (firstSlots k) (earliestRun p (firstSlots k))
     -- the state's queue is that of the jobs that wait
-    pub queue-is : queueOfPool (counted sheet .bound) (poolBefore p t) ≡ queueBefore sheet (run .started) (run .stepped) t
+    pub queue-is : queueOfPool (counted sheet .bound) (poolNow p k) ≡ queueAfter sheet from (run .stepped) k
     -- and these can be finished
-    pub finishable : Finishable (M (counted sheet)) (counted sheet .bound) (poolBefore p t)
+    pub finishable : Finishable (M (counted sheet)) (counted sheet .bound) (poolNow p k)

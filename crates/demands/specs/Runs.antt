@@ -1,15 +1,16 @@
 -- A run of the stepper, and what demand 2 asks of it: "Stepping with that plan, from a queue that has one, with arrivals from the sheet, is
--- never refused before the horizon".
-use Prim.Native.Nat.{ℕ, zero, suc, _≤_, _<_}
+-- never refused before the horizon". A run begins with any state, at whatever slot: one that was saved, or the one that `start` gave, which
+-- is at slot 0.
+use Prim.Native.Nat.{ℕ, zero, suc, _+_, _*_, _≤_, _<_}
 use mathlib.Core.Path.{_≡_}
 use mathlib.Core.List.{List}
 use mathlib.Core.Option.{some}
 use lib.Dec.{T}
 use lib.ListN.{length, getD}
 use Rattle.process.specs.Sums.{sum}
-use Rattle.model.specs.Counted.{counted, sizeAt, deadlineAt, energyOf, M}
-use Rattle.model.specs.Plan.{valueIn, placeOfQueue}
-use Rattle.model.specs.Queue.{Queue, bearable, oneSlot}
+use Rattle.model.specs.Counted.{counted, sizeAt, deadlineAt, energyOf, greatestEnergy, M}
+use Rattle.model.specs.Plan.{HasValue, valueIn, placeOfQueue}
+use Rattle.model.specs.Queue.{Queue, positions, unusedZero, bearable, oneSlot}
 use Rattle.model.specs.Stepper.{queueOf}
 use Rattle.model.specs.declared.Sheet.{Sheet}
 use Rattle.stepper.specs.Calls.{stateOf}
@@ -18,51 +19,78 @@ use Rattle.stepper.specs.declared.state.Stepped.{Stepped}
 use Rattle.stepper.specs.declared.state.Told.{Told}
 use Rattle.demands.specs.Calls.{Starts, Speeds, Advances}
 
--- the state before slot t: the one that start gave, and then each one that the last advance handed back
-abbrev pub stateBefore : Stepped → (ℕ → Stepped) → ℕ → State
-stateBefore started stepped zero = started .state
-stateBefore started stepped (suc t) = stepped t .state
+-- w(1) to w(D) of a state
+abbrev pub queueOfState : Sheet → State → Queue
+queueOfState sheet x = queueOf (counted sheet) (stateOf x)
 
--- a run with this plan from the queue of the state `from`: a start, and then for each arrival, which is the place of an entry, one speed
--- call and one advance
+-- a state that a run may begin with: "a queue that has one", a value at the state's slot; and 13 finds nothing else wrong with it. That a
+-- queue stands in six places is what the machine gives
+pub record Begins (sheet : Sheet) (from : State) : Type 0 where
+  pub six : length (from .queue) ≡ positions
+  pub unused : T (unusedZero (counted sheet .bound) (from .queue))
+  pub energy-upto : from .energy ≤ from .slot * greatestEnergy (counted sheet)
+  pub has-value : HasValue (counted sheet) (from .slot) (queueOfState sheet from)
+
+-- the state after k slots: the one that the run begins with, and then each one that the last advance handed back
+abbrev pub stateAfter : State → (ℕ → Stepped) → ℕ → State
+stateAfter from stepped zero = from
+stateAfter from stepped (suc k) = stepped k .state
+
+-- a run with this plan from a state: for each arrival, which is the place of an entry, one speed call and one advance
 pub record Run (sheet : Sheet) (bytes : List ℕ) (from : State) (arrivals : List ℕ) : Type 0 where
-  pub started : Stepped
   pub told : ℕ → Told
   pub stepped : ℕ → Stepped
-  pub starts : Starts from sheet started
-  pub speeds : (t : ℕ) → t < length arrivals → Speeds (stateBefore started stepped t) sheet bytes (told t)
-  pub advances : (t : ℕ) → t < length arrivals →
-      Advances (stateBefore started stepped t) sheet bytes
-      (sizeAt (counted sheet) (getD arrivals t 0)) (deadlineAt (counted sheet) (getD arrivals t 0)) (stepped t)
+  pub speeds : (k : ℕ) → k < length arrivals → Speeds (stateAfter from stepped k) sheet bytes (told k)
+  pub advances : (k : ℕ) → k < length arrivals →
+      Advances (stateAfter from stepped k) sheet bytes
+      (sizeAt (counted sheet) (getD arrivals k 0)) (deadlineAt (counted sheet) (getD arrivals k 0)) (stepped k)
 
--- w(1) to w(D) before slot t
-abbrev pub queueBefore : Sheet → Stepped → (ℕ → Stepped) → ℕ → Queue
-queueBefore sheet started stepped t = queueOf (counted sheet) (stateOf (stateBefore started stepped t))
+-- w(1) to w(D) after k slots
+abbrev pub queueAfter : Sheet → State → (ℕ → Stepped) → ℕ → Queue
+queueAfter sheet from stepped k = queueOfState sheet (stateAfter from stepped k)
 
--- the state before slot t of a run
+-- the state after k slots of a run
 pub record Stands (sheet : Sheet) (values bytes : List ℕ) {from : State} {arrivals : List ℕ} (run : Run sheet bytes from arrivals)
-    (t : ℕ) : Type 0 where
-  pub slot-is : stateBefore (run .started) (run .stepped) t .slot ≡ t
-  -- the energy spent is the sum of the energies of the speeds told
-  pub energy-is : stateBefore (run .started) (run .stepped) t .energy ≡ sum (λ u. energyOf (counted sheet) (run .told u .speed)) t
+    (k : ℕ) : Type 0 where
+  pub slot-is : stateAfter from (run .stepped) k .slot ≡ from .slot + k
+  -- the energy spent has grown by the sum of the energies of the speeds told
+  pub energy-is : stateAfter from (run .stepped) k .energy ≡ from .energy + sum (λ j. energyOf (counted sheet) (run .told j .speed)) k
   -- the queue is bearable and has a value
-  pub is-bearable : T (bearable (M (counted sheet)) (queueBefore sheet (run .started) (run .stepped) t))
-  pub has-value : (v : ℕ) × (valueIn values (placeOfQueue (counted sheet) t (queueBefore sheet (run .started) (run .stepped) t)) ≡ some v)
+  pub is-bearable : T (bearable (M (counted sheet)) (queueAfter sheet from (run .stepped) k))
+  pub has-value : (v : ℕ) ×
+      (valueIn values (placeOfQueue (counted sheet) (from .slot + k) (queueAfter sheet from (run .stepped) k)) ≡ some v)
 
--- slot t of a run: neither call is refused, the speed is the plan's, and the next queue is what the slot and the arrival make of this one
+-- the slot that follows: neither call is refused, the speed is the plan's, and the next queue is what the slot and the arrival make of this
+-- one
 pub record Steps (sheet : Sheet) (bytes : List ℕ) {from : State} {arrivals : List ℕ} (run : Run sheet bytes from arrivals)
-    (t : ℕ) : Type 0 where
-  pub speed-answers : run .told t .number ≡ 0
-  pub speed-is : run .told t .speed ≡ getD bytes (placeOfQueue (counted sheet) t (queueBefore sheet (run .started) (run .stepped) t)) 0
-  pub advance-answers : run .stepped t .number ≡ 0
-  pub queue-is : queueBefore sheet (run .started) (run .stepped) (suc t) ≡
-      oneSlot (queueBefore sheet (run .started) (run .stepped) t) (run .told t .speed)
-      (sizeAt (counted sheet) (getD arrivals t 0)) (deadlineAt (counted sheet) (getD arrivals t 0))
+    (k : ℕ) : Type 0 where
+  pub speed-answers : run .told k .number ≡ 0
+  pub speed-is : run .told k .speed ≡
+      getD bytes (placeOfQueue (counted sheet) (from .slot + k) (queueAfter sheet from (run .stepped) k)) 0
+  pub advance-answers : run .stepped k .number ≡ 0
+  pub queue-is : queueAfter sheet from (run .stepped) (suc k) ≡
+      oneSlot (queueAfter sheet from (run .stepped) k) (run .told k .speed)
+      (sizeAt (counted sheet) (getD arrivals k 0)) (deadlineAt (counted sheet) (getD arrivals k 0))
 
 -- the whole run
 pub record NeverRefused (sheet : Sheet) (values bytes : List ℕ) {from : State} {arrivals : List ℕ}
     (run : Run sheet bytes from arrivals) : Type 0 where
+  pub stands : (k : ℕ) → k ≤ length arrivals → Stands sheet values bytes run k
+  pub steps : (k : ℕ) → k < length arrivals → Steps sheet bytes run k
+
+-- "Start takes a sheet and a queue and gives slot 0, energy 0"
+abbrev pub atStart : State → State
+atStart x = record { queue = x .queue; slot = 0; energy = 0 }
+
+-- a run from the queue of the state `from`: a start, and then a run from the state that it gave
+pub record StartedRun (sheet : Sheet) (bytes : List ℕ) (from : State) (arrivals : List ℕ) : Type 0 where
+  pub started : Stepped
+  pub starts : Starts from sheet started
+  pub run : Run sheet bytes (started .state) arrivals
+
+-- the whole of it: start answers 0 and gives that queue at slot 0, and what follows is a run that is never refused
+pub record StartedNeverRefused (sheet : Sheet) (values bytes : List ℕ) {from : State} {arrivals : List ℕ}
+    (run : StartedRun sheet bytes from arrivals) : Type 0 where
   pub start-answers : run .started .number ≡ 0
-  pub first-queue : queueBefore sheet (run .started) (run .stepped) 0 ≡ queueOf (counted sheet) (stateOf from)
-  pub stands : (t : ℕ) → t ≤ length arrivals → Stands sheet values bytes run t
-  pub steps : (t : ℕ) → t < length arrivals → Steps sheet bytes run t
+  pub start-gives : run .started .state ≡ atStart from
+  pub never-refused : NeverRefused sheet values bytes (run .run)

@@ -11,10 +11,10 @@ use lib.ListN.{length}
 use Rattle.model.specs.Queue.{Queue, total, bearable, oneSlot}
 use Rattle.model.proofs.Queues.{length-totals, length-slot, total-slot, bearable-upto, bearable-all}
 use Rattle.jobs.specs.Pool.{Pool, dueWithin, queueOfPool, NoneLate, SlotsUpto}
-use Rattle.jobs.specs.Runs.{ArrivalsRight, Enough, quiet, Finishable}
+use Rattle.jobs.specs.Runs.{ArrivalsRight, Enough, quiet, Finishable, TotalsTell}
 use Rattle.jobs.proofs.Sums.{due-more}
 use Rattle.jobs.proofs.Slots.{total-of}
-use Rattle.jobs.proofs.Runs.{TotalsTell, totals-tell}
+use Rattle.jobs.proofs.Runs.{totals-tell}
 
 -- an arrival of no work adds nothing, due or not
 adds-nothing : (b : Bool) → _≡_ {A = ℕ} (cond b 0 0) 0

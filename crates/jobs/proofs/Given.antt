@@ -9,9 +9,9 @@ use native.Mathlib.Omega.{arith}
 use lib.ListN.{length, getD}
 use Rattle.jobs.specs.Given.{given, OfJob, Coming, EachJob, NoMore, ByDeadline, AtSpeeds, ServesAlong}
 use Rattle.jobs.specs.Pool.{Waiting, Pool, jobAt, queueOfPool, NoneLate, SlotsUpto}
-use Rattle.jobs.specs.Runs.{Slot, ArrivalsRight, nextPool, MissesNone, Enough}
+use Rattle.jobs.specs.Runs.{Slot, ArrivalsRight, nextPool, MissesNone, Enough, TotalsTell}
 use Rattle.jobs.specs.Service.{Service, WorkAllows, Serves, spend}
-use Rattle.jobs.proofs.Runs.{TotalsTell, totals-tell}
+use Rattle.jobs.proofs.Runs.{totals-tell}
 
 -- what a job is given: in no slot nothing
 

@@ -1,20 +1,16 @@
 -- Along a run, earliest deadline first leaves after each slot, within every u, no more due than any other order of service.
-use Prim.Native.Nat.{ℕ, suc, _≤_}
+use Prim.Native.Nat.{suc}
 use mathlib.Core.List.{List, [], _∷_}
 use native.Mathlib.Nat.{le-refl}
 use native.Mathlib.Omega.{arith}
 use Rattle.jobs.specs.Given.{ServesAlong}
-use Rattle.jobs.specs.Pool.{Pool, dueWithin}
+use Rattle.jobs.specs.Pool.{Pool, dueWithin, NoMoreDue}
 use Rattle.jobs.specs.Runs.{Slot, nextPool, poolAfter, earliestRun}
 use Rattle.jobs.specs.Service.{Service, Serves, earliest}
 use Rattle.jobs.proofs.Sums.{serves-leaves}
 use Rattle.jobs.proofs.Earliest.{earliest-leaves}
 use Rattle.jobs.proofs.Slots.{due-next}
 use Rattle.jobs.proofs.Given.{serves-first, serves-later}
-
--- within no u is more due of q than of p
-abbrev pub NoMoreDue : Pool → Pool → Type 0
-NoMoreDue q p = (u : ℕ) → dueWithin q u ≤ dueWithin p u
 
 -- a slot of earliest deadline first keeps it so, against any service of p
 earliest-keeps : (q p : Pool) (t : Service) (x : Slot) → Serves (x .speed) p t → NoMoreDue q p →

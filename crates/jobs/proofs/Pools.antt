@@ -9,7 +9,7 @@ use lib.Dec.{T}
 use lib.ListN.{length, getD}
 use Rattle.model.specs.Queue.{Queue, total, NeverFalls, bearable}
 use Rattle.model.proofs.Queues.{length-totals, same-totals, bearable-at}
-use Rattle.jobs.specs.Pool.{Pool, workWhere, dueWithin, queueOfPool, NoneLate, SlotsUpto}
+use Rattle.jobs.specs.Pool.{Pool, workWhere, dueWithin, queueOfPool, NoneLate, SlotsUpto, PoolOf}
 use Rattle.jobs.proofs.Slots.{total-of}
 
 -- the jobs of the totals w, the first due within d slots, after a total x
@@ -44,13 +44,7 @@ unfolding rises
 rises-on-time d x [] h = tt
 rises-on-time d x (y ∷ w) h = (λ late. omega (arith, late .1), rises-on-time (suc d) y w (omega arith))
 
--- a pool whose queue is w, none of whose jobs is late or has more slots left than w has positions
-pub record PoolOf (w : Queue) : Type 0 where
-  pub pool : Pool
-  pub is : queueOfPool (length w) pool ≡ w
-  pub upto : SlotsUpto (length w) pool
-  pub on-time : NoneLate pool
-
+-- every queue that never falls is that of a pool
 pub every-queue : (w : Queue) → NeverFalls w → PoolOf w
 every-queue w f =
     record {

@@ -4,7 +4,6 @@ use Prim.Native.Nat.{ℕ, zero, suc, min, _≤_, _<_, zero-le}
 use mathlib.Core.Path.{_≡_, refl, sym, ap, _∙_, subst}
 use mathlib.Core.Bool.{Bool, true, false}
 use mathlib.Core.List.{List, [], _∷_}
-use mathlib.Core.Logic.{_↔_}
 use native.Mathlib.Nat.{le-trans, zero-lt-suc}
 use native.Mathlib.Omega.{arith}
 use borrow.Author.Tests.{ltb-true, ltb-false}
@@ -14,7 +13,7 @@ use Rattle.model.specs.Queue.{Queue, total, oneSlot}
 use Rattle.model.specs.Tests.{listed}
 use Rattle.model.proofs.Queues.{total-past, length-totals, length-slot, total-slot}
 use Rattle.jobs.specs.Pool.{Pool, dueWithin, queueOfPool, NoneLate, SlotsUpto}
-use Rattle.jobs.specs.Runs.{Slot, ArrivalsRight, afterSlot, nextPool, poolAfter, MissesNone, SomeOrder, earliestRun, EarliestFirst, Enough}
+use Rattle.jobs.specs.Runs.{Slot, ArrivalsRight, afterSlot, nextPool, poolAfter, MissesNone, SomeOrder, earliestRun, EarliestFirst, Enough, TotalsTell}
 use Rattle.jobs.specs.Service.{Service, Serves, earliest}
 use Rattle.jobs.proofs.Sums.{due-more, serves-leaves}
 use Rattle.jobs.proofs.Earliest.{earliest-serves}
@@ -102,11 +101,6 @@ enough-earliest D l p h n (x ∷ run) a e =
     )
 
 -- the theorem: from a pool none of whose jobs is late or has more than D slots left, along any run whose arrivals are due within 1 to D slots
-pub record TotalsTell (D : ℕ) (p : Pool) (run : List Slot) : Type 0 where
-  pub some-order : Enough (queueOfPool D p) run ↔ SomeOrder p run
-  pub earliest-first : Enough (queueOfPool D p) run ↔ EarliestFirst p run
-  pub no-order-better : SomeOrder p run → EarliestFirst p run
-
 pub totals-tell : (D : ℕ) → 1 ≤ D → (p : Pool) → SlotsUpto D p → NoneLate p → (run : List Slot) → ArrivalsRight D run → TotalsTell D p run
 totals-tell D l p h n run a =
     record {

@@ -5,7 +5,7 @@ use mathlib.Core.Path.{_≡_}
 use mathlib.Core.Bool.{Bool, true, cond}
 use mathlib.Core.List.{List, [], _∷_, _++_, map}
 use lib.Dec.{leb, eqb}
-use lib.ListN.{getD}
+use lib.ListN.{length, getD}
 use Rattle.model.specs.Queue.{Queue, totals}
 
 -- a job that waits: the work left of it, and the slots left to do it in, the coming one included
@@ -29,6 +29,10 @@ workWhere test (j ∷ p) = cond (test (j .slots)) (j .work) 0 + workWhere test p
 -- "the work that must be done within u slots": of the jobs that have at most u slots left
 abbrev pub dueWithin : Pool → ℕ → ℕ
 dueWithin p u = workWhere (λ d. leb d u) p
+
+-- within no u is more due of q than of p
+abbrev pub NoMoreDue : Pool → Pool → Type 0
+NoMoreDue q p = (u : ℕ) → dueWithin q u ≤ dueWithin p u
 
 -- the work of the jobs that have exactly d slots left
 abbrev pub dueAt : Pool → ℕ → ℕ
@@ -66,3 +70,10 @@ NoneLate (j ∷ p) = (Late j → ⊥) × NoneLate p
 abbrev pub SlotsUpto : ℕ → Pool → Type 0
 SlotsUpto D [] = Unit {0}
 SlotsUpto D (j ∷ p) = (j .slots ≤ D) × SlotsUpto D p
+
+-- a pool whose queue is w, none of whose jobs is late or has more slots left than w has positions
+pub record PoolOf (w : Queue) : Type 0 where
+  pub pool : Pool
+  pub is : queueOfPool (length w) pool ≡ w
+  pub upto : SlotsUpto (length w) pool
+  pub on-time : NoneLate pool

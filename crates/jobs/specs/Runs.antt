@@ -2,8 +2,9 @@
 -- that wait can be finished.
 use Prim.Native.Nat.{ℕ, zero, suc, _≤_}
 use mathlib.Core.List.{List, [], _∷_}
+use mathlib.Core.Logic.{_↔_}
 use Rattle.model.specs.Queue.{Queue, total, oneSlot}
-use Rattle.jobs.specs.Pool.{Pool, countedOff, arrived, NoneLate}
+use Rattle.jobs.specs.Pool.{Pool, queueOfPool, countedOff, arrived, NoneLate}
 use Rattle.jobs.specs.Service.{Service, Serves, spend, earliest}
 
 -- "One slot at speed s, then an arrival of size c and deadline d"
@@ -56,6 +57,13 @@ EarliestFirst p run = MissesNone p run (earliestRun p run)
 abbrev pub Enough : Queue → List Slot → Type 0
 Enough w [] = Unit {0}
 Enough w (x ∷ run) = (total w 1 ≤ x .speed) × Enough (oneSlot w (x .speed) (x .size) (x .deadline)) run
+
+-- along a run from the pool p, "each speed is at least w(1)" of its totals, some order of service misses no deadline, and earliest deadline
+-- first misses none: one and the same
+pub record TotalsTell (D : ℕ) (p : Pool) (run : List Slot) : Type 0 where
+  pub some-order : Enough (queueOfPool D p) run ↔ SomeOrder p run
+  pub earliest-first : Enough (queueOfPool D p) run ↔ EarliestFirst p run
+  pub no-order-better : SomeOrder p run → EarliestFirst p run
 
 -- k slots at speed M in which nothing more comes
 unfoldable pub quiet : ℕ → ℕ → List Slot

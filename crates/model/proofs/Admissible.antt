@@ -10,15 +10,10 @@ use Rattle.process.specs.Ways.{Way, later, Along, Good}
 use Rattle.process.proofs.Value.{good-step}
 use Rattle.model.specs.Counted.{Counted, weightAt, onSheet, M}
 use Rattle.model.specs.Queue.{Queue, total, bearable}
-use Rattle.model.specs.Plan.{nextQueue, processOf, admissible}
+use Rattle.model.specs.Plan.{nextQueue, processOf, admissible, AlongAdmissible}
 use Rattle.model.specs.Tests.{everywhere}
 use Rattle.model.proofs.Tests.{and-left, and-right, and-both, everywhere-at, everywhere-all}
 use Rattle.model.proofs.Counted.{on-sheet}
-
--- along the list of entries, from the queue w, each speed is admissible
-abbrev pub AlongAdmissible : Counted → Queue → Way → List ℕ → Type 0
-AlongAdmissible s w σ [] = Unit {0}
-AlongAdmissible s w σ (i ∷ l) = T (admissible s w (σ [])) × AlongAdmissible s (nextQueue s w (σ []) i) (later σ i) l
 
 -- a speed is admissible exactly where it is on the sheet, at least w(1), and each entry leads to a bearable queue
 pub admissible-says : (s : Counted) (w : Queue) (a : ℕ) →

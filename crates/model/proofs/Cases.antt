@@ -13,7 +13,7 @@ use Rattle.process.specs.Recursion.{priced, plan}
 use Rattle.process.specs.Ways.{IsValue, IsCost, IsFirst}
 use Rattle.process.proofs.Sums.{same-true}
 use Rattle.process.proofs.Value.{value-is, first-is, cost-is}
-use Rattle.model.specs.Cases.{Case, planned, valued, decides, answers, costs, refuses, reads, views, counts, fields, steps, tells, numbers, lists, tests, Holds, AllHold, casesOfA, casesOfHopeless, casesP, cases}
+use Rattle.model.specs.Cases.{Case, planned, valued, decides, answers, costs, refuses, reads, views, counts, fields, steps, tells, numbers, lists, tests, Holds, AllHold, casesOfA, casesOfHopeless, casesP, casesOfPlans, casesOfQueues, casesOfRefusals, casesOfBytes, casesOfSteps, casesOfListings, cases}
 use Rattle.model.specs.Counted.{Counted, counted, speedAt, weightAt, onSheet, M}
 use Rattle.model.specs.Plan.{processOf, IsValueAt, IsPlanByte, queueAt, valueIn, number12}
 use Rattle.model.specs.Queue.{Queue, emptyQueue, bearable, continuationCount}
@@ -25,7 +25,7 @@ use Rattle.model.specs.declared.Job.{Job}
 use Rattle.model.specs.declared.Sheet.{Sheet}
 use Rattle.model.specs.declared.Speed.{Speed}
 use Rattle.model.specs.Tests.{check, everywhere}
-use Rattle.model.proofs.Computed.{valueFor, sameOption, sameAnswer, sameState, sameBy, sameSpeed, sameJob, sameCounted, whole, sameBool, quickN, orderly, byteTest, decidesTest, costTest, rowTest, test, firstFailing, cases-pass}
+use Rattle.model.proofs.Computed.{valueFor, sameOption, sameAnswer, sameState, sameBy, sameSpeed, sameJob, sameCounted, whole, sameBool, quickN, orderly, byteTest, decidesTest, costTest, rowTest, test, firstFailing, AllPass, each-list-passes}
 use Rattle.model.proofs.Counted.{Climbs, climbs-rise, on-sheet}
 use Rattle.model.proofs.Queues.{queue-count}
 use Rattle.model.proofs.Tests.{and-left, and-right, check-zero, then-left, then-right, everywhere-at}
@@ -271,9 +271,49 @@ all-sound place (c ∷ rest) e =
       all-sound (suc place) rest (then-right (check (test c) (suc place)) later e),
     )
 
--- all the cases hold: those of document 01 that are marked P, and ours
+-- where no case of a list fails its test, all of them hold
+passing-hold : (l : List Case) → AllPass l → AllHold l
+passing-hold l e = all-sound 0 l e
+
+-- the cases hold, list by list
+
+-- those of document 01 that are marked P
+pub marked-cases-hold : AllHold casesP
+marked-cases-hold = passing-hold casesP (each-list-passes .marked)
+
+pub plan-cases-hold : AllHold casesOfPlans
+plan-cases-hold = passing-hold casesOfPlans (each-list-passes .plans)
+
+pub queue-cases-hold : AllHold casesOfQueues
+queue-cases-hold = passing-hold casesOfQueues (each-list-passes .queues)
+
+pub refusal-cases-hold : AllHold casesOfRefusals
+refusal-cases-hold = passing-hold casesOfRefusals (each-list-passes .refusals)
+
+pub reading-cases-hold : AllHold casesOfBytes
+reading-cases-hold = passing-hold casesOfBytes (each-list-passes .bytes)
+
+pub stepping-cases-hold : AllHold casesOfSteps
+stepping-cases-hold = passing-hold casesOfSteps (each-list-passes .steps)
+
+pub listing-cases-hold : AllHold casesOfListings
+listing-cases-hold = passing-hold casesOfListings (each-list-passes .listings)
+
+-- two lists of cases that hold, one after the other
+hold-both : (l m : List Case) → AllHold l → AllHold m → AllHold (l ++ m)
+hold-both [] m first second = second
+hold-both (c ∷ l) m first second = (first .0, hold-both l m (first .1) second)
+
+-- so all the cases hold: those of document 01 that are marked P, and ours
 pub cases-hold : AllHold cases
-cases-hold = all-sound 0 cases cases-pass
+unfolding cases
+cases-hold =
+    hold-both casesP _ marked-cases-hold
+    (hold-both casesOfPlans _ plan-cases-hold
+    (hold-both casesOfQueues _ queue-cases-hold
+    (hold-both casesOfRefusals _ refusal-cases-hold
+    (hold-both casesOfBytes _ reading-cases-hold
+    (hold-both casesOfSteps casesOfListings stepping-cases-hold listing-cases-hold)))))
 
 -- where two lists of cases together hold, the first does
 pub holds-first : (l m : List Case) → AllHold (l ++ m) → AllHold l
@@ -285,17 +325,12 @@ pub holds-rest : (l m : List Case) → AllHold (l ++ m) → AllHold m
 holds-rest [] m all = all
 holds-rest (c ∷ l) m all = holds-rest l m (all .1)
 
--- the cases marked P hold
-P-holds : AllHold casesP
-unfolding cases
-P-holds = holds-first casesP _ cases-hold
-
 -- the cases of sheet A's plan hold
 pub A-holds : AllHold casesOfA
 unfolding casesP
-A-holds = holds-first casesOfA _ P-holds
+A-holds = holds-first casesOfA _ marked-cases-hold
 
 -- and those of the sheet that gives 12
 pub hopeless-holds : AllHold casesOfHopeless
 unfolding casesP
-hopeless-holds = holds-first casesOfHopeless _ (holds-rest casesOfA _ P-holds)
+hopeless-holds = holds-first casesOfHopeless _ (holds-rest casesOfA _ marked-cases-hold)

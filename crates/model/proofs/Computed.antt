@@ -1,4 +1,4 @@
--- The cases of specs/Cases.antt, computed: a test for each kind of case, and one computation over the whole list. What a test that passes
+-- The cases of specs/Cases.antt, computed: a test for each kind of case, and one computation over each list. What a test that passes
 -- means is proved in Cases.antt beside this file.
 use Prim.Native.Nat.{ℕ, zero, suc, pred, _-_}
 use mathlib.Core.Path.{_≡_, refl}
@@ -10,7 +10,7 @@ use lib.ListN.{length, getD}
 use Rattle.process.specs.Sums.{sum, same}
 use Rattle.process.specs.Recursion.{sumOrNone, cheaper, best, priced, choice, value, plan}
 use Rattle.model.specs.Bytes.{codeIn, speedBytes, jobBytes, sheetBytes, writeLines, write}
-use Rattle.model.specs.Cases.{Case, planned, valued, decides, answers, costs, refuses, reads, views, counts, fields, steps, tells, numbers, lists, tests, casesOfA, casesOfHopeless, casesP, casesOfPlans, casesOfQueues, casesOfRefusals, casesOfBytes, casesOfSteps, casesOfListings, cases}
+use Rattle.model.specs.Cases.{Case, planned, valued, decides, answers, costs, refuses, reads, views, counts, fields, steps, tells, numbers, lists, tests, casesOfA, casesOfHopeless, casesP, casesOfPlans, casesOfQueues, casesOfRefusals, casesOfBytes, casesOfSteps, casesOfListings}
 use Rattle.model.specs.Counted.{Counted, counted, speedAt, weightAt, speedsOf, onSheet, energyOf, W, M, greatestEnergy, G}
 use Rattle.model.specs.Listing.{digitsIn, header, bytesListed, lineOf, listing, refusedLine, listLines, list}
 use Rattle.model.specs.Plan.{nextQueue, processOf, admissible, queueAt, valueIn, number12, planLines, rowLines, row}
@@ -134,7 +134,29 @@ unfoldable pub firstFailing : ℕ → List Case → ℕ
 firstFailing place [] = 0
 firstFailing place (c ∷ rest) = check (test c) (suc place) then firstFailing (suc place) rest
 
--- the computation: every case passes its test
-pub cases-pass : firstFailing 0 cases ≡ 0
-unfolding cases casesP casesOfA casesOfHopeless casesOfPlans casesOfQueues casesOfRefusals casesOfBytes casesOfSteps casesOfListings firstFailing test quickN orderly byteTest decidesTest costTest rowTest sameOption sameAnswer sameState sameBy sameSpeed sameJob sameCounted sameBool sum sumOrNone cheaper best priced choice value plan codeIn speedBytes jobBytes sheetBytes writeLines write digitsIn header bytesListed lineOf listing refusedLine listLines list speedsOf onSheet energyOf W M greatestEnergy G nextQueue processOf admissible planLines rowLines row bearable bearableIn run arrive eachTotal continuations bearableQueues queueCount placeIn numberOf continuationCount numberIn readSpeed readSpeeds readSpeedTable readJob readJobs readJobTable judged readCounted speedsLines jobsLines fieldLines limitLines N linesGiven sheetLines stateRight startLines start planByte byteRight speedLines speed isEntry moved advanceLines advance inOrder inTurn everywhere anywhere firstPlace greatest listed same
-cases-pass = refl
+-- no case of a list fails its test
+abbrev pub AllPass : List Case → Type 0
+AllPass l = firstFailing 0 l ≡ 0
+
+-- the computation, list by list: where a list has a case that does not pass, the error is at that list's line and names it, and tells the
+-- case's place unless the list is too long to be computed for an error
+pub record EachListPasses : Type 0 where
+  pub marked : AllPass casesP
+  pub plans : AllPass casesOfPlans
+  pub queues : AllPass casesOfQueues
+  pub refusals : AllPass casesOfRefusals
+  pub bytes : AllPass casesOfBytes
+  pub steps : AllPass casesOfSteps
+  pub listings : AllPass casesOfListings
+
+pub each-list-passes : EachListPasses
+unfolding casesP casesOfA casesOfHopeless casesOfPlans casesOfQueues casesOfRefusals casesOfBytes casesOfSteps casesOfListings firstFailing test quickN orderly byteTest decidesTest costTest rowTest sameOption sameAnswer sameState sameBy sameSpeed sameJob sameCounted sameBool sum sumOrNone cheaper best priced choice value plan codeIn speedBytes jobBytes sheetBytes writeLines write digitsIn header bytesListed lineOf listing refusedLine listLines list speedsOf onSheet energyOf W M greatestEnergy G nextQueue processOf admissible planLines rowLines row bearable bearableIn run arrive eachTotal continuations bearableQueues queueCount placeIn numberOf continuationCount numberIn readSpeed readSpeeds readSpeedTable readJob readJobs readJobTable judged readCounted speedsLines jobsLines fieldLines limitLines N linesGiven sheetLines stateRight startLines start planByte byteRight speedLines speed isEntry moved advanceLines advance inOrder inTurn everywhere anywhere firstPlace greatest listed same
+each-list-passes = record {
+  marked = refl;
+  plans = refl;
+  queues = refl;
+  refusals = refl;
+  bytes = refl;
+  steps = refl;
+  listings = refl;
+}

@@ -10,18 +10,13 @@ use borrow.Author.Tests.{lt-ltb, le-ltb, ltb-true, ltb-false, lt-leb, le-leb}
 use lib.Dec.{leb, ltb}
 use lib.ListN.{length, getD}
 use Rattle.model.specs.Counted.{Counted}
-use Rattle.model.specs.Listing.{digit, digitsIn, decimal, listing, listRefusal, listLines, list}
+use Rattle.model.specs.Listing.{digit, said, digitsIn, decimal, listing, listRefusal, listLines, list}
 use Rattle.model.specs.Plan.{planNeeded, rowRefusal, rowLines}
 use Rattle.model.specs.Refusal.{sheetRefusal}
 use Rattle.model.specs.Tests.{check, _then_}
 use Rattle.model.proofs.Codes.{rest-short}
 use Rattle.model.proofs.Tests.{check-true, check-false}
 use Rattle.model.proofs.Written.{written-number}
-
--- what digits say, after so much was said
-abbrev pub said : ℕ → List ℕ → ℕ
-said so [] = so
-said so (c ∷ l) = said (10 * so + (c - digit 0)) l
 
 -- one digit more
 said-more : (so : ℕ) (l : List ℕ) (c : ℕ) → said so (l ++ c ∷ []) ≡ 10 * said so l + (c - digit 0)

@@ -15,7 +15,7 @@ use lib.Seq.{ext-getD, length-take-le, getD-take, take-take, take-append-seam}
 use Rattle.process.specs.Sums.{sum, same}
 use Rattle.process.proofs.Sums.{same-refl, same-true}
 use Rattle.model.specs.Tests.{listed}
-use Rattle.model.specs.Queue.{Queue, total, totals, emptyQueue, positions, queueIn, placesOf, bearableAt, bearable, unusedAt, bearableIn, run, arrive, oneSlot, eachTotal, continuations, bearableQueues, queueCount, placeIn, numberOf, continuationCount}
+use Rattle.model.specs.Queue.{Queue, total, totals, emptyQueue, positions, queueIn, placesOf, bearableAt, bearable, unusedAt, bearableIn, run, arrive, oneSlot, before, eachTotal, continuations, bearableQueues, queueCount, placeIn, numberOf, continuationCount}
 use Rattle.model.proofs.Tests.{check-passes, and-left, and-right, and-both, everywhere-at, everywhere-all, length-listed, getD-listed}
 
 -- a queue by its totals
@@ -295,12 +295,6 @@ pub number-place : (M : ℕ) (w : Queue) {D : ℕ} → length w ≡ D → T (bea
 number-place M w long t = subst (λ (D : ℕ). getD (bearableQueues M D) (numberOf M w) [] ≡ w) long (bearable-found M w t .1)
 
 -- dictionary order
-
--- the first difference decides
-abbrev pub before : Queue → Queue → Type 0
-before [] w = ⊥
-before (x ∷ v) [] = ⊥
-before (x ∷ v) (y ∷ w) = (x < y) ⊎ ((x ≡ y) × before v w)
 
 -- no queue is before itself
 pub before-irreflexive : (w : Queue) → before w w → ⊥

@@ -10,7 +10,7 @@ use Rattle.process.specs.Sums.{sum}
 use Rattle.process.specs.Ways.{Among}
 use Rattle.process.proofs.Eased.{value-bounded}
 use Rattle.process.proofs.Equations.{value-end, value-step, choice-is, priced-is, best-more}
-use Rattle.process.proofs.Value.{UptoOr}
+use Rattle.process.specs.Recursion.{UptoOr}
 use Rattle.model.specs.Counted.{Counted, speedAt, weightAt, sizeAt, deadlineAt, speedsOf, energyOf, W, M, G}
 use Rattle.model.specs.Plan.{nextQueue, processOf}
 use Rattle.model.specs.Queue.{Queue, total, bearable, run, arrive}

@@ -13,37 +13,12 @@ use Rattle.process.specs.Pairing.{Rising}
 use Rattle.process.proofs.Sums.{sum-more, sum-upto}
 use Rattle.model.specs.Counted.{Counted, speedAt, energyAt, weightAt, sizeAt, deadlineAt, speedsOf, W, M, greatestEnergy, G}
 use Rattle.model.specs.Queue.{queueCount}
+pub use Rattle.model.specs.Refusal.{Ranged, Accepted}
 use Rattle.model.specs.Refusal.{boundRight, speedCountRight, speedRight, energyRight, horizonRight, jobCountRight, weightRight, sizeRight, deadlineRight, speedsRefusal, speedsLines, jobsRefusal, jobsLines, fieldsRefusal, fieldLines, limitLines, linesGiven, sheetRefusal, sheetLines, valueLimit, N}
 use Rattle.model.specs.Tests.{check, _then_, within}
 use Rattle.model.proofs.Queues.{at-least-two}
 use Rattle.model.proofs.Counted.{climbs-rise, on-sheet-at, speed-upto}
 use Rattle.model.proofs.Tests.{and-left, and-right, check-zero, then-left, then-right, in-order-at, greatest-upto}
-
--- document 01's ranges, of each place that counts: what 4 to 8 test
-pub record Ranged (s : Counted) : Type 0 where
-  pub bound-low : 1 ≤ s .bound
-  pub bound-high : s .bound ≤ 6
-  pub speeds-low : 2 ≤ s .speedCount
-  pub speeds-high : s .speedCount ≤ 9
-  pub first-zero : speedAt s 0 ≡ 0
-  pub rises : (j : ℕ) → suc j < s .speedCount → speedAt s j < speedAt s (suc j)
-  pub speed-high : (j : ℕ) → j < s .speedCount → speedAt s j ≤ 8
-  pub energy-high : (j : ℕ) → j < s .speedCount → energyAt s j ≤ 65535
-  pub horizon-low : 1 ≤ s .horizon
-  pub horizon-high : s .horizon ≤ 200
-  pub jobs-low : 1 ≤ s .jobCount
-  pub jobs-high : s .jobCount ≤ 32
-  pub weight-low : (i : ℕ) → i < s .jobCount → 1 ≤ weightAt s i
-  pub weight-high : (i : ℕ) → i < s .jobCount → weightAt s i ≤ 255
-  pub size-high : (i : ℕ) → i < s .jobCount → sizeAt s i ≤ 255
-  pub deadline-low : (i : ℕ) → i < s .jobCount → 1 ≤ deadlineAt s i
-  pub deadline-high : (i : ℕ) → i < s .jobCount → deadlineAt s i ≤ s .bound
-
--- and the limits of the whole sheet: what 9 and 10 test
-pub record Accepted (s : Counted) : Type 0 where
-  pub ranged : Ranged s
-  pub fits : s .horizon * G s * W s ^ s .horizon ≤ valueLimit
-  pub queues-high : N s ≤ 65535
 
 -- a test and then others: where the number is 0, the test passes and the others' number is 0
 pub passed : (b : Bool) (number later : ℕ) → check b (suc number) then later ≡ 0 → T b × (later ≡ 0)

@@ -9,8 +9,8 @@ use borrow.Author.Tests.{le-leb, lt-leb, leb-true}
 use lib.Dec.{leb}
 use lib.ListN.{length, take, drop, replicate, length-append}
 use lib.Seq.{take-all, take-take, take-at, length-take-le}
-use Rattle.model.specs.Bytes.{AreBytes, code, speedBytes, jobBytes, sheetBytes, writeRefusal, writeLines, write}
-use Rattle.model.specs.Counted.{Counted, sheetOf, counted, inMemory, zeroSpeed, zeroJob}
+use Rattle.model.specs.Bytes.{AreBytes, code, speedBytes, jobBytes, sheetBytes, BytesOf, writeRefusal, writeLines, write}
+use Rattle.model.specs.Counted.{Counted, WellCounted, sheetOf, counted, inMemory, zeroSpeed, zeroJob}
 use Rattle.model.specs.Reading.{Answer, value, refused, readSpeedTable, readJobTable, judged, readCounted, readAnswer, read}
 use Rattle.model.specs.Refusal.{boundRight, speedCountRight, horizonRight, jobCountRight, speedsRefusal, speedsLines, jobsLines, fieldsRefusal, fieldLines, limitsRefusal, linesGiven, sheetRefusal, sheetLines, N}
 use Rattle.model.specs.Tests.{inTurn, padded}
@@ -20,17 +20,6 @@ use Rattle.model.proofs.Readers.{Positive, read-positive, value-same, o
 use Rattle.model.proofs.Refusal.{Ranged, ranged}
 use Rattle.model.proofs.Tests.{then-both, then-left, then-right, then-on, check-true, check-false}
 use Rattle.model.proofs.Written.{written-number}
-
--- as many places as the counts say
-pub record WellCounted (s : Counted) : Type 0 where
-  pub speeds-counted : length (s .speeds) ≡ s .speedCount
-  pub jobs-counted : length (s .jobs) ≡ s .jobCount
-
--- the bytes are the sheet's, and it is an accepted one with as many places as its counts say
-pub record BytesOf (bytes : List ℕ) (s : Counted) : Type 0 where
-  pub bytes-are : bytes ≡ sheetBytes s
-  pub is-accepted : sheetRefusal s ≡ 0
-  pub well-counted : WellCounted s
 
 -- the places that count of a sheet in memory, whose counts are in range, are as many as the counts say
 pub counted-well : (s : Sheet) → length (s .speeds) ≡ 9 → length (s .jobs) ≡ 32 → s .«speed_count» ≤ 9 → s .«job_count» ≤ 32 →

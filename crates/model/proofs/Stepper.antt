@@ -7,9 +7,9 @@ use mathlib.Core.List.{List}
 use borrow.Author.Tests.{le-leb, lt-leb, eq-eqb, ne-eqb}
 use lib.Dec.{T, leb, eqb, leb→le, eqb-refl}
 use lib.ListN.{length, getD}
-use Rattle.model.specs.Counted.{Counted, sizeAt, deadlineAt, onSheet, energyOf, greatestEnergy}
+use Rattle.model.specs.Counted.{Counted, sizeAt, deadlineAt, onSheet, energyOf, greatestEnergy, M}
 use Rattle.model.specs.Plan.{placeOfQueue, rowRefusal}
-use Rattle.model.specs.Queue.{total, placesOf, oneSlot}
+use Rattle.model.specs.Queue.{total, placesOf, bearable, oneSlot}
 use Rattle.model.specs.Refusal.{sheetRefusal}
 use Rattle.model.specs.Stepper.{State, queueOf, queueRight, stateRight, zeroState, startRefusal, startLines, start, planByte, byteRight, speedRefusal, speedLines, speed, isEntryAt, isEntry, moved, nextRefusal, advanceRefusal, advanceLines, advance}
 use Rattle.model.specs.Tests.{check, _then_}
@@ -205,6 +205,16 @@ module _ (s : Counted) where
   unfolding advanceLines
   advance-refusal-next plan x size deadline e right =
       then-on (speedRefusal s plan x) _ e ∙ then-passes (isEntry s size deadline) 15 _ right
+
+  -- what an advance that is not refused has: a speed call that is not refused, and a next queue that is bearable
+  pub advance-accepted : (plan : List ℕ) (x : State) (size deadline : ℕ) → advanceRefusal s plan x size deadline ≡ 0 →
+      (speedRefusal s plan x ≡ 0) × T (bearable (M s) (queueOf s (moved s x (planByte s plan x) size deadline)))
+  unfolding advanceLines
+  advance-accepted plan x size deadline e =
+      let next = moved s x (planByte s plan x) size deadline in
+      let first = bearable (M s) (queueOf s next) in
+      let after-entry = then-right (check (isEntry s size deadline) 15) _ (then-right (speedRefusal s plan x) _ e) in
+      (then-left (speedRefusal s plan x) _ e, check-zero first 16 (then-left (check first 17) _ after-entry))
 
   -- what they answer, and what when they refuse
 

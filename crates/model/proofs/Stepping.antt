@@ -1,12 +1,11 @@
--- Stepping with a right plan is never refused (specs/Stepper.antt): from a queue that has a value, start, speed and each advance by an
+-- Stepping with a right plan is never refused (specs/Stepper.antt): from a queue that has a value at its slot, speed and each advance by an
 -- entry of the sheet answer 0, and the next queue has a value again; at the horizon the answer is 14, and what was
 -- spent is what a least good way spends along the same entries. Callers' proofs cite these laws, and not the stepper's definitions.
-use Prim.Native.Nat.{ℕ, suc, _+_, _*_, _-_, _≤_, _<_, zero-le}
-use mathlib.Core.Path.{_≡_, refl, sym, ap, _∙_, subst}
-use mathlib.Core.Bool.{true}
+use Prim.Native.Nat.{ℕ, suc, _+_, _*_, _-_, _≤_, _<_}
+use mathlib.Core.Path.{_≡_, sym, ap, _∙_, subst}
+use mathlib.Core.Bool.{true, false}
 use mathlib.Core.List.{List}
-use mathlib.Core.Option.{some}
-use native.Mathlib.Nat.{le-refl, le-of-lt, mul-le-mul, sub-zero}
+use native.Mathlib.Nat.{le-refl, le-of-lt, mul-le-mul}
 use native.Mathlib.Omega.{arith}
 use borrow.Author.Tests.{le-leb}
 use lib.Dec.{T, leb, le→leb}
@@ -14,21 +13,21 @@ use lib.ListN.{length, getD}
 use Rattle.process.specs.Recursion as recursion
 use Rattle.process.specs.Recursion.{ruled}
 use Rattle.process.specs.Sums.{sum}
-use Rattle.process.specs.Ways.{Way, spent, IsValue, IsLeast, IsFirst}
+use Rattle.process.specs.Ways.{Way, spent, IsLeast, IsFirst}
 use Rattle.process.proofs.Value.{first-step, plan-least, value-some-is, first-plan, SlotByRule, spent-by-rule}
-use Rattle.model.specs.Counted.{Counted, sizeAt, deadlineAt, weightAt, onSheet, energyOf, greatestEnergy, M}
-use Rattle.model.specs.Plan.{nextQueue, processOf, HasValue, placeOfQueue, rowRefusal}
+use Rattle.model.specs.Counted.{Counted, speedAt, sizeAt, deadlineAt, weightAt, onSheet, energyOf, greatestEnergy, M}
+use Rattle.model.specs.Plan.{nextQueue, processOf, HasValue, noSpeed, placeOfQueue, rowRefusal}
 use Rattle.model.specs.Queue.{Queue, total, positions, queueIn, placesOf, bearable, unusedZero, bearableIn, oneSlot}
 use Rattle.model.specs.Refusal.{sheetRefusal}
 use Rattle.model.specs.Stepper.{State, queueOf, queueRight, stateRight, start, planByte, byteRight, speedRefusal, speed, isEntry, moved, energyLimit, nextRefusal, advanceRefusal, advance}
 use Rattle.model.specs.Tests.{check, _then_}
 use Rattle.model.proofs.Admissible.{good-bearable}
-use Rattle.model.proofs.Counted.{on-sheet, energy-of-upto}
+use Rattle.model.proofs.Counted.{on-sheet, place-of, energy-of-upto}
 use Rattle.model.proofs.Queues.{length-slot, held-bearable, length-in, length-places, in-first-places, places-hold}
 use Rattle.model.proofs.Refusal.{Ranged, accepted, speeds-rise, greatest-energy-high}
 use Rattle.model.proofs.Rooms.{row-accepted}
-use Rattle.model.proofs.Stepper.{state-right, start-by, start-refusal-0, energy-decides, speed-by, speed-refusal-14, speed-refusal-16-or-0, byte-at, first-decides, entry-at, moved-by, advance-by, advance-refusal-speed, advance-refusal-next}
-use Rattle.model.proofs.Tests.{holds-true, and-both, check-passes, check-true, then-both}
+use Rattle.model.proofs.Stepper.{state-right, start-by, start-refusal-0, energy-decides, speed-by, speed-refusal-14, speed-refusal-16-or-0, wrong-byte, byte-at, first-decides, entry-at, moved-by, advance-by, advance-refusal-speed, advance-refusal-next}
+use Rattle.model.proofs.Tests.{holds-true, fails-false, and-both, check-passes, check-true, check-false, then-both}
 
 -- plan bytes that are right: at every slot before the horizon, for every bearable queue that has a value, the byte begins a least way
 abbrev pub RightPlan : Counted → List ℕ → Type 0
@@ -60,19 +59,15 @@ module _ (s : Counted) where
   value-bearable e t w v = good-bearable s (accepted s e .ranged .jobs-low) (s .horizon - t) w (v .1 .way) (v .1 .holds)
 
   -- so that what stands in the places is right where the unused ones are zero
-  pub right-with-value : sheetRefusal s ≡ 0 → (x : State) → T (unusedZero (s .bound) (x .queue)) → HasValue s 0 (queueOf s x) →
+  pub right-with-value : sheetRefusal s ≡ 0 → (t : ℕ) (x : State) → T (unusedZero (s .bound) (x .queue)) → HasValue s t (queueOf s x) →
       T (queueRight s x)
   unfolding bearableIn
-  right-with-value e x unused v = and-both (bearable (M s) (queueOf s x)) _ (value-bearable e 0 (queueOf s x) v) unused
+  right-with-value e t x unused v = and-both (bearable (M s) (queueOf s x)) _ (value-bearable e t (queueOf s x) v) unused
 
-  -- start from a queue that has a value answers 0, and stepping goes on from there
-  pub started : sheetRefusal s ≡ 0 → (x : State) → length (x .queue) ≡ positions → T (queueRight s x) → HasValue s 0 (queueOf s x) →
-      (start s x ≡ record { number = 0; state = record { queue = x .queue; slot = 0; energy = 0 } }) ×
-      Going s 0 (record { queue = x .queue; slot = 0; energy = 0 })
-  started e x six right v = (
-    start-by s x (start-refusal-0 s x e (holds-true (queueRight s x) right)),
-    record { six = six; right = right; at-slot = refl; energy-upto = zero-le; has-value = v },
-  )
+  -- start from a right queue answers 0, and gives slot 0 and energy 0
+  pub started : sheetRefusal s ≡ 0 → (x : State) → T (queueRight s x) →
+      start s x ≡ record { number = 0; state = record { queue = x .queue; slot = 0; energy = 0 } }
+  started e x right = start-by s x (start-refusal-0 s x e (holds-true (queueRight s x) right))
 
   -- 13 passes of a state from which stepping goes on
   going-right : (t : ℕ) (x : State) → t ≤ s .horizon → Going s t x → stateRight s x ≡ true
@@ -90,6 +85,26 @@ module _ (s : Counted) where
         speed-by s plan x last,
         λ size deadline. advance-by s plan x size deadline (advance-refusal-speed s plan x size deadline (sym last) (λ q. omega arith)),
       )
+
+  -- before the horizon, where the plan byte is the one of a queue that has no value: 16, whatever arrives
+  pub no-way-16 : (plan : List ℕ) (x : State) → rowRefusal s (length plan) ≡ 0 → T (stateRight s x) → x .slot < s .horizon →
+      planByte s plan x ≡ noSpeed →
+      (speed s plan x ≡ record { number = 16; speed = 0 }) ×
+      ((size deadline : ℕ) → advance s plan x size deadline ≡ record { number = 16; state = x })
+  no-way-16 plan x e right before none =
+      let ranges = accepted s (row-accepted s (length plan) e .0) .ranged in
+      let apart : onSheet s noSpeed ≡ false = fails-false (onSheet s noSpeed) (λ on. too-fast ranges (place-of s noSpeed on)) in
+      let wrong = wrong-byte s x (planByte s plan x) (ap (onSheet s) none ∙ apart) in
+      let refusal = speed-refusal-16-or-0 s plan x e (holds-true (stateRight s x) right) (λ q. omega arith) ∙
+      check-false (byteRight s x (planByte s plan x)) 16 wrong in (
+        speed-by s plan x refusal,
+        λ size deadline.
+            advance-by s plan x size deadline (advance-refusal-speed s plan x size deadline (sym refusal) (λ q. omega arith)),
+      )
+    where
+      -- no speed of a sheet is above 8
+      too-fast : Ranged s → (j : ℕ) × (j < s .speedCount) × (speedAt s j ≡ noSpeed) → ⊥
+      too-fast ranges (j, l, at) = omega (arith, ranges .speed-high j l, at)
 
   -- before the horizon, with a right plan
 
@@ -192,18 +207,17 @@ module _ (s : Counted) where
   abbrev planned : ℕ → Queue → ℕ
   planned = recursion.plan (processOf s) (s .jobCount) (weightAt s)
 
-  -- the way that takes these speeds from slot 0 to the horizon
-  abbrev pub plannedWay : Queue → Way
-  plannedWay w = ruled (processOf s) planned (s .horizon) w
+  -- the way that takes these speeds from slot t to the horizon
+  abbrev pub plannedWay : ℕ → Queue → Way
+  plannedWay t w = ruled (processOf s) planned (s .horizon - t) w
 
-  -- from a queue that has a value it is a least good way
-  pub planned-least : sheetRefusal s ≡ 0 → (w : Queue) → HasValue s 0 w →
-      IsLeast (processOf s) (s .jobCount) (weightAt s) (s .horizon) w (plannedWay w)
-  planned-least e w v =
+  -- from a queue that has a value there it is a least good way
+  pub planned-least : sheetRefusal s ≡ 0 → (t : ℕ) (w : Queue) → HasValue s t w →
+      IsLeast (processOf s) (s .jobCount) (weightAt s) (s .horizon - t) w (plannedWay t w)
+  planned-least e t w v =
       let jobs-low = accepted s e .ranged .jobs-low in
-      let is-value = subst (λ (k : ℕ). IsValue (processOf s) (s .jobCount) (weightAt s) k w (some (v .0))) (sub-zero (s .horizon)) (v .1) in
-      plan-least (processOf s) (s .jobCount) (weightAt s) jobs-low (s .horizon) w (v .0)
-      (value-some-is (processOf s) (s .jobCount) (weightAt s) jobs-low (s .horizon) w (v .0) is-value)
+      plan-least (processOf s) (s .jobCount) (weightAt s) jobs-low (s .horizon - t) w (v .0)
+      (value-some-is (processOf s) (s .jobCount) (weightAt s) jobs-low (s .horizon - t) w (v .0) (v .1))
 
   -- a right plan holds these speeds
   right-planned : sheetRefusal s ≡ 0 → (plan : List ℕ) → RightPlan s plan →
@@ -218,32 +232,37 @@ module _ (s : Counted) where
       (first-plan (processOf s) (s .jobCount) (weightAt s) (ranges .jobs-low) (speeds-rise s ranges) (s .horizon - suc t) w byte)
       (right-plan t h w long (value-bearable e t w v) v)
 
-  -- so, from slot to slot along entries up to the horizon, the energies of its speeds come to what that way spends along them
+  -- so, from slot t on, along entries up to the horizon, the energies of its speeds come to what that way spends along them; k slots
+  -- after slot t the queue is `queue k` and the speed `speedIn k`
   pub spends-planned : sheetRefusal s ≡ 0 → (plan : List ℕ) → RightPlan s plan →
-      (arrivals : List ℕ) → length arrivals ≡ s .horizon → (queue : ℕ → Queue) (speedIn : ℕ → ℕ) →
-      ((t : ℕ) → t < length arrivals →
-      (length (queue t) ≡ s .bound) × HasValue s t (queue t) ×
-      (speedIn t ≡ getD plan (placeOfQueue s t (queue t)) 0) ×
-      (queue (suc t) ≡ oneSlot (queue t) (speedIn t) (sizeAt s (getD arrivals t 0)) (deadlineAt s (getD arrivals t 0)))) →
-      sum (λ t. energyOf s (speedIn t)) (length arrivals) ≡ spent (processOf s) (queue 0) (plannedWay (queue 0)) arrivals
+      (t : ℕ) (arrivals : List ℕ) → t + length arrivals ≡ s .horizon → (queue : ℕ → Queue) (speedIn : ℕ → ℕ) →
+      ((k : ℕ) → k < length arrivals →
+      (length (queue k) ≡ s .bound) × HasValue s (t + k) (queue k) ×
+      (speedIn k ≡ getD plan (placeOfQueue s (t + k) (queue k)) 0) ×
+      (queue (suc k) ≡ oneSlot (queue k) (speedIn k) (sizeAt s (getD arrivals k 0)) (deadlineAt s (getD arrivals k 0)))) →
+      sum (λ k. energyOf s (speedIn k)) (length arrivals) ≡ spent (processOf s) (queue 0) (plannedWay t (queue 0)) arrivals
   unfolding processOf nextQueue sum
-  spends-planned e plan right-plan arrivals last queue speedIn slots =
+  spends-planned e plan right-plan t arrivals last queue speedIn slots =
       omega (
         arith,
         spent-by-rule (processOf s) planned arrivals queue energyBefore slot,
-        ap (λ (T : ℕ). spent (processOf s) (queue 0) (ruled (processOf s) planned T (queue 0)) arrivals) last,
+        ap (λ (left : ℕ). spent (processOf s) (queue 0) (ruled (processOf s) planned left (queue 0)) arrivals) all-left,
       )
     where
-      energyBefore : ℕ → ℕ
-      energyBefore = sum (λ t. energyOf s (speedIn t))
+      all-left : length arrivals ≡ s .horizon - t
+      all-left = omega arith
 
-      slot : (t : ℕ) → t < length arrivals →
-          SlotByRule (processOf s) planned (length arrivals - t) (getD arrivals t 0) (queue t) (queue (suc t))
-          (energyBefore t) (energyBefore (suc t))
-      slot t h =
-          let here = slots t h in
-          let speed-is = here .2 ∙ right-planned e plan right-plan t (omega arith) (queue t) (here .0) (here .1) ∙
-          ap (λ (T : ℕ). planned (T - t) (queue t)) (sym last) in (
-            here .3 ∙ ap (λ (speed : ℕ). nextQueue s (queue t) speed (getD arrivals t 0)) speed-is,
-            ap (λ (speed : ℕ). energyBefore t + energyOf s speed) speed-is,
+      energyBefore : ℕ → ℕ
+      energyBefore = sum (λ k. energyOf s (speedIn k))
+
+      slot : (k : ℕ) → k < length arrivals →
+          SlotByRule (processOf s) planned (length arrivals - k) (getD arrivals k 0) (queue k) (queue (suc k))
+          (energyBefore k) (energyBefore (suc k))
+      slot k h =
+          let here = slots k h in
+          let left : s .horizon - (t + k) ≡ length arrivals - k = omega arith in
+          let speed-is = here .2 ∙ right-planned e plan right-plan (t + k) (omega arith) (queue k) (here .0) (here .1) ∙
+          ap (λ (slots-left : ℕ). planned slots-left (queue k)) left in (
+            here .3 ∙ ap (λ (speed : ℕ). nextQueue s (queue k) speed (getD arrivals k 0)) speed-is,
+            ap (λ (speed : ℕ). energyBefore k + energyOf s speed) speed-is,
           )

@@ -17,6 +17,11 @@ pub holds-true : (passes : Bool) → T passes → passes ≡ true
 holds-true true t = refl
 holds-true false t = absurd t
 
+-- one that does not hold is false
+pub fails-false : (passes : Bool) → (T passes → ⊥) → passes ≡ false
+fails-false true f = absurd (f tt)
+fails-false false f = refl
+
 -- two tests together
 
 pub and-left : (a b : Bool) → T (a && b) → T a

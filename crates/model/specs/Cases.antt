@@ -1,6 +1,6 @@
 -- The cases of document 01 that are marked P, and more that tell apart what is easy to get wrong. `Holds` gives each kind of case its
 -- meaning in the definitions; that all of them hold is one theorem, proofs/Cases.antt.
-use Prim.Native.Nat.{ℕ, _<_}
+use Prim.Native.Nat.{ℕ, _+_, _<_}
 use mathlib.Core.Path.{_≡_}
 use mathlib.Core.Bool.{Bool, true, false}
 use mathlib.Core.List.{List, [], _∷_, _++_}
@@ -9,7 +9,7 @@ use lib.ListN.{length, getD, take, replicate, set}
 use Rattle.model.specs.Bytes.{code, sheetBytes, write}
 use Rattle.model.specs.Counted.{Counted, counted, sheetOf}
 use Rattle.model.specs.Listing.{text, decimal, listing, refusedLine, list}
-use Rattle.model.specs.Plan.{IsValueAt, IsCostAt, IsPlanByte, Decided, FromEmpty, valueIn, admissible, planRefusal, row}
+use Rattle.model.specs.Plan.{IsValueAt, IsCostAt, IsPlanByte, PlanAnswer, Decided, FromEmpty, valueIn, admissible, planRefusal, row}
 use Rattle.model.specs.Queue.{Queue, emptyQueue, placesOf, run, arrive, queueCount, numberOf, bearable}
 use Rattle.model.specs.Reading.{Answer, value, refused, field, read}
 use Rattle.model.specs.Refusal.{sheetRefusal, N}
@@ -136,6 +136,19 @@ upto6 = upto5 ++ (at 6 0 ∷ [])
 -- "none is written 2^64-1 in the values", in digits
 abbrev pub none64 : ℕ
 none64 = 18446744073709551615
+
+-- what `plan` leaves and answers of the two sheets; the theorems over its contract are plan-of-A and plan-of-hopeless of demands
+
+-- 01's values of both slots, the plan bytes of its listing, and the header's numbers
+pub record IsPlanOfA (values bytes : List ℕ) (answer : PlanAnswer) : Type 0 where
+  pub slot-0 : (i : ℕ) → i < 12 → (getD values i 0 ≡ getD valuesA0 i 0) × (getD bytes i 0 ≡ getD A0 i 0)
+  pub slot-1 : (i : ℕ) → i < 12 → (getD values (12 + i) 0 ≡ getD valuesA1 i 0) × (getD bytes (12 + i) 0 ≡ getD A1 i 0)
+  pub answer-is : answer ≡ record { number = 0; queues = 12; least = 0 }
+
+-- "P: D 1, speeds 0 and 1 with energies 0 and 1, T 1, one job (1, 2, 1): number 12, plan bytes 255 255"
+pub record IsPlanOfHopeless (values bytes : List ℕ) (answer : PlanAnswer) : Type 0 where
+  pub slot-0 : (i : ℕ) → i < 2 → (getD values i 0 ≡ getD (none64 ∷ none64 ∷ []) i 0) × (getD bytes i 0 ≡ getD (255 ∷ 255 ∷ []) i 0)
+  pub answer-is : answer ≡ record { number = 12; queues = 2; least = 0 }
 
 -- sheet A's plan: 01's values and the plan bytes of its listing
 unfoldable pub casesOfA : List Case

@@ -2,6 +2,7 @@
 -- are ignored by every call". Every rule is said of this view, so that places past the counts cannot matter; two sheets are the same
 -- "in every place that counts" where their views are equal.
 use Prim.Native.Nat.{ℕ}
+use mathlib.Core.Path.{_≡_}
 use mathlib.Core.Bool.{Bool, cond}
 use mathlib.Core.List.{List}
 use lib.Dec.{eqb}
@@ -32,6 +33,11 @@ counted s =
       jobCount = s .«job_count»;
       jobs = take (s .«job_count») (s .jobs);
     }
+
+-- as many places as the counts say
+pub record WellCounted (s : Counted) : Type 0 where
+  pub speeds-counted : length (s .speeds) ≡ s .speedCount
+  pub jobs-counted : length (s .jobs) ≡ s .jobCount
 
 abbrev pub zeroSpeed : Speed
 zeroSpeed = record { speed = 0; energy = 0 }

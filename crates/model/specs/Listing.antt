@@ -1,6 +1,6 @@
 -- Document 01, "Worked sheet and its listing": the bytes of the listing of a planned sheet, what the call that writes them leaves, and the
 -- line that the planning program writes for a refusal.
-use Prim.Native.Nat.{ℕ, zero, suc, _+_, _^_, _/_, _%_}
+use Prim.Native.Nat.{ℕ, zero, suc, _+_, _*_, _-_, _^_, _/_, _%_}
 use Prim.Native.Char.{code as characterCode}
 use Prim.Native.String.{String, [] as [·], _∷_ as _·∷_}
 use mathlib.Core.Bool.{cond, _&&_}
@@ -21,6 +21,11 @@ text (c ·∷ s) = characterCode c ∷ text s
 -- a digit's character: 0 is 48
 abbrev pub digit : ℕ → ℕ
 digit d = 48 + d
+
+-- the number that digits say, the highest first, where `so` was said before them
+abbrev pub said : ℕ → List ℕ → ℕ
+said so [] = so
+said so (c ∷ l) = said (10 * so + (c - digit 0)) l
 
 -- a number in at most n digits, the highest first, and no zero before them
 unfoldable pub digitsIn : ℕ → ℕ → List ℕ

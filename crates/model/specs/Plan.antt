@@ -3,11 +3,11 @@
 use Prim.Native.Nat.{ℕ, zero, suc, _+_, _*_, _-_, _^_, _<_}
 use mathlib.Core.Path.{_≡_}
 use mathlib.Core.Bool.{Bool, cond, _&&_}
-use mathlib.Core.List.{List, []}
+use mathlib.Core.List.{List, [], _∷_}
 use mathlib.Core.Option.{Option, none, some, Option·getD}
-use lib.Dec.{leb, ltb, eqb}
+use lib.Dec.{T, leb, ltb, eqb}
 use lib.ListN.{length, getD, take, drop}
-use Rattle.process.specs.Ways.{Process, IsValue, IsCost, IsFirst}
+use Rattle.process.specs.Ways.{Process, Way, later, IsValue, IsCost, IsFirst}
 use Rattle.model.specs.Counted.{Counted, sizeAt, deadlineAt, weightAt, speedsOf, onSheet, energyOf, M}
 use Rattle.model.specs.Queue.{Queue, total, emptyQueue, bearable, oneSlot, bearableQueues, numberOf}
 use Rattle.model.specs.Refusal.{sheetLines, N}
@@ -17,7 +17,9 @@ use Rattle.model.specs.Tests.{Lines, line, _⨾_, firstOf, everywhere}
 unfoldable pub nextQueue : Counted → Queue → ℕ → ℕ → Queue
 nextQueue s w speed i = oneSlot w speed (sizeAt s i) (deadlineAt s i)
 
--- states are queues, actions are the sheet's speeds, events are the places of its entries. A way may be in bearable queues alone; "each
+-- states are queues, actions are the sheet's speeds, events are the places of its entries. "In each slot exactly one entry arrives, with
+-- chance weight/W": a slot has one event, and the entry's weight is its share of W. "Two entries may be equal; both count": events are
+-- places, so that equal entries are two events. A way may be in bearable queues alone; "each
 -- speed is at least w(1)"; "After slot T-1 remaining work costs nothing"
 unfoldable pub processOf : Counted → Process Queue
 processOf s =
@@ -34,6 +36,11 @@ processOf s =
 unfoldable pub admissible : Counted → Queue → ℕ → Bool
 admissible s w speed =
     onSheet s speed && leb (total w 1) speed && everywhere (λ i. bearable (M s) (nextQueue s w speed i)) (s .jobCount)
+
+-- along the list of entries, from the queue w, each speed that the way chooses is admissible
+abbrev pub AlongAdmissible : Counted → Queue → Way → List ℕ → Type 0
+AlongAdmissible s w σ [] = Unit {0}
+AlongAdmissible s w σ (i ∷ l) = T (admissible s w (σ [])) × AlongAdmissible s (nextQueue s w (σ []) i) (later σ i) l
 
 -- "The value of slot t and queue w is the least scaled energy of a good way over the last T-t slots, or none"; t is at most T
 abbrev pub IsValueAt : Counted → ℕ → Queue → Option ℕ → Type 0
@@ -120,7 +127,8 @@ pub record FromEmpty (s : Counted) (a : PlanAnswer) : Type 0 where
   pub number : a .number ≡ number12 r
   pub least : a .least ≡ Option·getD r 0
 
--- the lent places after a plan that is not refused. `read` is how a value stands in the values
+-- the lent places after a plan that is not refused. `read` is how a value stands in the values. Slots are "numbered 0 to T-1": t is below
+-- the horizon
 pub record Filled (read : List ℕ → ℕ → Option ℕ) (s : Counted) (values₀ plan₀ values plan : List ℕ) (a : PlanAnswer) : Type 0 where
   pub rows : (t i : ℕ) → t < s .horizon → i < N s → Decided s t i (read values (placeAt s t i)) (getD plan (placeAt s t i) 0)
   -- row T

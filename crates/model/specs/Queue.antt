@@ -1,7 +1,9 @@
 -- Document 01, "Queues": what a queue is, when it is bearable, what one slot does to it, and how the bearable queues are numbered.
 use Prim.Native.Nat.{ℕ, zero, suc, _+_, _*_, _-_, min, _≤_, _<_}
+use mathlib.Core.Path.{_≡_}
 use mathlib.Core.Bool.{Bool, cond, _&&_}
 use mathlib.Core.List.{List, [], _∷_, _++_, map}
+use mathlib.Core.Logic.{_⊎_}
 use lib.Dec.{leb, eqb}
 use lib.ListN.{length, getD, take}
 use Rattle.process.specs.Sums.{sum, same}
@@ -74,9 +76,15 @@ run w s = totals (length w) (λ u. total w (min (suc u) (length w)) - s)
 unfoldable pub arrive : Queue → ℕ → ℕ → Queue
 arrive w c d = totals (length w) (λ u. total w u + cond (leb d u) c 0)
 
--- "One slot at speed s, then an arrival of size c and deadline d"
+-- "One slot at speed s, then an arrival of size c and deadline d". "This is earliest deadline first": the jobs crate proves it of single jobs
 abbrev pub oneSlot : Queue → ℕ → ℕ → ℕ → Queue
 oneSlot w s c d = arrive (run w s) c d
+
+-- "dictionary order of w(1), w(2), and so on": v comes before w where, at the first position at which they differ, v has less
+abbrev pub before : Queue → Queue → Type 0
+before [] w = ⊥
+before (x ∷ v) [] = ⊥
+before (x ∷ v) (y ∷ w) = (x < y) ⊎ ((x ≡ y) × before v w)
 
 -- "Bearable queues are numbered from 0 in dictionary order of w(1), w(2), and so on": the list of them all. It is built position by
 -- position. After a total w whose slack is g, the next total is each of w, w + 1, .., w + g + M in turn, and its slack falls from g + M

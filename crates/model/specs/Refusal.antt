@@ -1,6 +1,7 @@
 -- Document 01, "Numbers returned", for a sheet. "A sheet in memory is tested 4 to 10 in that field order by every call": the reader's
 -- order, in which a field's "own range is tested before the next field".
-use Prim.Native.Nat.{ℕ, zero, suc, pred, _+_, _*_, _^_, _-_}
+use Prim.Native.Nat.{ℕ, zero, suc, pred, _+_, _*_, _^_, _-_, _≤_, _<_}
+use mathlib.Core.Path.{_≡_}
 use mathlib.Core.Bool.{Bool, _&&_}
 use lib.Dec.{leb, ltb, eqb}
 use Rattle.model.specs.Counted.{Counted, speedAt, energyAt, weightAt, sizeAt, deadlineAt, W, M, G}
@@ -26,7 +27,7 @@ speedRight (suc j) before speed = ltb before speed && leb speed 8
 abbrev pub energyRight : ℕ → Bool
 energyRight energy = leb energy 65535
 
--- "Horizon T: 1 to 200 slots"
+-- "Horizon T: 1 to 200 slots, numbered 0 to T-1"
 abbrev pub horizonRight : ℕ → Bool
 horizonRight T = within 1 200 T
 
@@ -167,3 +168,31 @@ refusalGiven queues s = firstOf (linesGiven queues s)
 -- the number of a sheet: 0, or the first of 4 to 10 whose test fails
 abbrev pub sheetRefusal : Counted → ℕ
 sheetRefusal s = firstOf (sheetLines s)
+
+-- the same as plain facts, which theorems ask for; that an accepted sheet has them is proved (`accepted` in proofs/Refusal.antt)
+
+-- document 01's ranges, of each place that counts: what 4 to 8 test
+pub record Ranged (s : Counted) : Type 0 where
+  pub bound-low : 1 ≤ s .bound
+  pub bound-high : s .bound ≤ 6
+  pub speeds-low : 2 ≤ s .speedCount
+  pub speeds-high : s .speedCount ≤ 9
+  pub first-zero : speedAt s 0 ≡ 0
+  pub rises : (j : ℕ) → suc j < s .speedCount → speedAt s j < speedAt s (suc j)
+  pub speed-high : (j : ℕ) → j < s .speedCount → speedAt s j ≤ 8
+  pub energy-high : (j : ℕ) → j < s .speedCount → energyAt s j ≤ 65535
+  pub horizon-low : 1 ≤ s .horizon
+  pub horizon-high : s .horizon ≤ 200
+  pub jobs-low : 1 ≤ s .jobCount
+  pub jobs-high : s .jobCount ≤ 32
+  pub weight-low : (i : ℕ) → i < s .jobCount → 1 ≤ weightAt s i
+  pub weight-high : (i : ℕ) → i < s .jobCount → weightAt s i ≤ 255
+  pub size-high : (i : ℕ) → i < s .jobCount → sizeAt s i ≤ 255
+  pub deadline-low : (i : ℕ) → i < s .jobCount → 1 ≤ deadlineAt s i
+  pub deadline-high : (i : ℕ) → i < s .jobCount → deadlineAt s i ≤ s .bound
+
+-- and the limits of the whole sheet: what 9 and 10 test
+pub record Accepted (s : Counted) : Type 0 where
+  pub ranged : Ranged s
+  pub fits : s .horizon * G s * W s ^ s .horizon ≤ valueLimit
+  pub queues-high : N s ≤ 65535

@@ -53,7 +53,7 @@ start s x =
     let number = startRefusal s x in
     record { number = number; state = cond (eqb number 0) (record { queue = x .queue; slot = 0; energy = 0 }) zeroState }
 
--- "Speed reads the plan byte at the state's slot and queue number"
+-- "Speed reads the plan byte at the state's slot and queue number". "The plan bytes are lent and may be damaged": they are any list
 unfoldable pub planByte : Counted → List ℕ → State → ℕ
 planByte s plan x = getD plan (placeOfQueue s (x .slot) (queueOf s x)) 0
 

@@ -7,11 +7,11 @@ use native.Mathlib.Nat.{pow-zero, pow-suc, mul-le-mul-left, mul-comm, add-le-add
 use native.Mathlib.Omega.{arith}
 use Rattle.process.specs.Sums.{sum}
 use Rattle.process.specs.Ways.{Process, Among, IsValue}
-use Rattle.process.specs.Recursion.{value, plan, priced}
+use Rattle.process.specs.Recursion.{Upto, value, plan, priced}
 use Rattle.process.specs.Pairing.{OneToOne, Eases}
 use Rattle.process.proofs.Sums.{sum-same, sum-le, sum-times, sum-paired}
 use Rattle.process.proofs.Definite.{value-unique}
-use Rattle.process.proofs.Value.{Upto, upto-le, held, only-some, only-upto, priced-some}
+use Rattle.process.proofs.Value.{upto-le, held, only-some, only-upto, priced-some}
 use Rattle.process.proofs.Value.{priced-upto, value-some, value-upto, value-is}
 
 module _ {S S′ : Type 0} (P : Process S) (Q : Process S′) (n : ℕ) (w w′ : ℕ → ℕ) {there back : ℕ → ℕ} {R : S → S′ → Type 0}

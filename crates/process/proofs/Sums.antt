@@ -11,7 +11,7 @@ use native.Mathlib.Numerals.{add-one}
 use native.Mathlib.Omega.{arith}
 use lib.Dec.{T, eqb}
 use borrow.Author.Tests.{eq-eqb, ne-eqb, eqb-true, eqb-false}
-use Rattle.process.specs.Sums.{sum, Events, overLists, weight, same}
+use Rattle.process.specs.Sums.{sum, Events, overLists, weight, same, one-if}
 use Rattle.process.specs.Pairing.{OneToOne}
 
 -- terms that are equal below n have equal sums
@@ -71,11 +71,6 @@ pub sum-swap : (f : ℕ → ℕ → ℕ) (m n : ℕ) → sum (λ i. sum (f i) m)
 unfolding sum
 sum-swap f zero n = sum-none n (λ i h. refl)
 sum-swap f (suc m) n = sum-add (λ i. sum (f i) m) (λ i. f i m) n ∙ ap (λ s. s + sum (λ i. f i m) n) (sum-swap f m n)
-
--- 1 where a test passes, else 0
-abbrev pub one-if : Bool → ℕ
-one-if true = 1
-one-if false = 0
 
 -- the sum of the terms at j alone is the one at j
 pub sum-one : (j : ℕ) (f : ℕ → ℕ) (n : ℕ) → j < n → sum (λ i. one-if (eqb i j) * f i) n ≡ f j

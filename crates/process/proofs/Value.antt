@@ -14,20 +14,12 @@ use lib.ListN.{length, getD, replicate}
 use borrow.Author.Tests.{ltb-true, ltb-false}
 use Rattle.process.specs.Sums.{sum, Events, overLists, weight}
 use Rattle.process.specs.Ways.{Process, Way, later, Among, Along, Good, spent, energy, IsValue, IsCost, IsLeast, IsFirst}
-use Rattle.process.specs.Recursion.{plus, times, sumOrNone, only, Choice, nothing, chosen, choose, cheaper, better}
+pub use Rattle.process.specs.Recursion.{UptoOr}
+use Rattle.process.specs.Recursion.{Upto, plus, times, sumOrNone, only, Choice, nothing, chosen, choose, cheaper, better}
 use Rattle.process.specs.Recursion.{best, worth, actionOf, priced, choice, value, plan, ruled}
 use Rattle.process.specs.Pairing.{Rising}
 use Rattle.process.proofs.Definite.{value-unique, first-unique}
 use Rattle.process.proofs.Sums.{sum-same, sum-add, sum-times, over-add, over-times, weights-total}
-
--- a number that is at most u, where there is one; what none gives is a parameter
-abbrev pub UptoOr : Type 0 → Option ℕ → ℕ → Type 0
-UptoOr N none u = N
-UptoOr N (some v) u = v ≤ u
-
--- a number that is there and at most u
-abbrev pub Upto : Option ℕ → ℕ → Type 0
-Upto = UptoOr ⊥
 
 -- a bound may be raised
 pub uptoOr-le : (N : Type 0) (r : Option ℕ) {u v : ℕ} → UptoOr N r u → u ≤ v → UptoOr N r v

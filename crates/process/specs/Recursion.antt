@@ -1,6 +1,6 @@
 -- The backward induction: a recursion over the slots left that finds the least good way. The planner computes it; that it answers the
 -- published problem of Ways.antt is proved in proofs/. No contract of a public call mentions it.
-use Prim.Native.Nat.{ℕ, zero, suc, _+_, _*_, _^_}
+use Prim.Native.Nat.{ℕ, zero, suc, _+_, _*_, _^_, _≤_}
 use mathlib.Core.Bool.{Bool, true, false}
 use mathlib.Core.List.{List, [], _∷_}
 use mathlib.Core.Option.{Option, none, some}
@@ -28,6 +28,15 @@ sumOrNone f (suc n) = plus (sumOrNone f n) (f n)
 abbrev pub only : Bool → Option ℕ → Option ℕ
 only true r = r
 only false r = none
+
+-- a number that is at most u, where there is one; what none gives is a parameter
+abbrev pub UptoOr : Type 0 → Option ℕ → ℕ → Type 0
+UptoOr N none u = N
+UptoOr N (some v) u = v ≤ u
+
+-- a number that is there, and not none, and at most u
+abbrev pub Upto : Option ℕ → ℕ → Type 0
+Upto = UptoOr ⊥
 
 -- the least of several prices: nothing so far, or an action with its price
 pub data Choice : Type 0 where

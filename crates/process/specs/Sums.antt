@@ -32,3 +32,8 @@ same [] [] = true
 same [] (j ∷ m) = false
 same (i ∷ l) [] = false
 same (i ∷ l) (j ∷ m) = eqb i j && same l m
+
+-- 1 where a test passes, else 0: summed over all lists it counts those that pass
+abbrev pub one-if : Bool → ℕ
+one-if true = 1
+one-if false = 0

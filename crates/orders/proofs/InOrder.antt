@@ -13,7 +13,7 @@ use lib.Dec.{T, T-not, not-T, eqb, eqb→eq}
 use Rattle.model.specs.Plan.{number12}
 use Rattle.model.specs.Tests.{Lines, nothing, line, _⨾_, table, firstOf, check, _then_, inOrder}
 use Rattle.model.proofs.Tests.{check-passes, then-on, in-order-all}
-use Rattle.demands.specs.Numbers.{AllPass, FailsFirst, Tells, OneOf, Answers, AnswersOr12}
+use Rattle.orders.specs.Numbers.{AllPass, FailsFirst, Tells, OneOf, Answers, AnswersOr12}
 
 -- the number of the first that fails
 

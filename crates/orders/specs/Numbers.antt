@@ -9,8 +9,6 @@ use mathlib.Core.Option.{Option, none, some}
 use lib.Dec.{T, leb, ltb, eqb}
 use lib.ListN.{length, getD}
 use Rattle.model.specs.Counted.{Counted}
-use Rattle.model.specs.Plan.{IsValueAt}
-use Rattle.model.specs.Queue.{emptyQueue}
 use Rattle.model.specs.Reading.{Answer, value, refused, field}
 use Rattle.model.specs.Refusal.{speedField, jobField, fieldLines, limitLines, N}
 use Rattle.model.specs.Tests.{Lines, nothing, line, _⨾_, table, listed}
@@ -52,10 +50,6 @@ pub record AnswersOr12 (answer : ℕ) (lines : Lines) (Is : Option ℕ → Type 
   pub twelve : (answer ≡ 12) ↔ (AllPass lines × Is none)
   pub done : (answer ≡ 0) ↔ (AllPass lines × (v : ℕ) × Is (some v))
   pub gives : OneOf (0 ∷ 12 ∷ numbers) answer
-
--- "12: planned, but the empty queue at slot 0 has none": of the planner it is the empty queue's at slot 0
-abbrev pub IsValueOfEmpty : Counted → Option ℕ → Type 0
-IsValueOfEmpty s r = IsValueAt s 0 (emptyQueue (s .bound)) r
 
 -- Reading. "At each field a read answers a value with its next place, or a refusal"
 

@@ -7,7 +7,7 @@ use lib.Dec.{T}
 use Rattle.model.specs.Counted.{Counted}
 use Rattle.model.specs.Refusal.{speedsLines, jobsLines, fieldLines, limitLines, linesGiven, sheetLines}
 use Rattle.model.specs.Tests.{Lines}
-use Rattle.demands.proofs.InOrder.{Each}
+use Rattle.orders.proofs.InOrder.{Each}
 
 -- the test holds of each of these numbers
 abbrev pub EachNumber : (ℕ → Bool) → List ℕ → Type 0

@@ -14,7 +14,7 @@ use Rattle.model.specs.Queue.{bearableQueues, continuations, eachTotal, queueCo
 use Rattle.model.specs.Refusal.{speedsLines, jobsLines, fieldLines, limitLines, linesGiven, sheetLines, sheetRefusal, N}
 use Rattle.model.specs.Tests.{inOrder, firstPlace, greatest}
 use Rattle.model.proofs.Counted.{on-sheet-at, place-of}
-use Rattle.demands.specs.Paired.{Paired}
+use Rattle.pairs.specs.Paired.{Paired}
 
 -- sheet A with its entries the other way round, the second of them smaller, energies no more, and a speed 3
 abbrev easier : Counted

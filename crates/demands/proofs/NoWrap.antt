@@ -1,0 +1,194 @@
+-- No count wraps or goes below nothing, over the actual contracts of `speed` and `advance`: with whatever plan bytes, where an advance answers
+-- 0, each total after it is what the speed told left of the one before, or nothing, and what came; and every count has room in its 32 bits.
+use Prim.Native.Nat.{ℕ, suc, _+_, _*_, _-_, min, _≤_, _<_}
+use mathlib.Core.Path.{_≡_, refl, sym, ap, _∙_, subst}
+use mathlib.Core.Bool.{Bool, true, false, cond}
+use mathlib.Core.List.{List}
+use mathlib.Core.Logic.{inl, inr}
+use native.Mathlib.Nat.{le-refl, le-of-lt, mul-le-mul}
+use native.Mathlib.Omega.{arith}
+use borrow.Author.Tests.{leb-true, leb-false}
+use lib.Dec.{T, leb}
+use lib.ListN.{length}
+use Rattle.model.specs.Counted.{Counted, counted, energyOf, M}
+use Rattle.model.specs.Queue.{Queue, total, positions, placesOf, bearable, oneSlot}
+use Rattle.model.specs.Stepper as model
+use Rattle.model.specs.declared.Sheet.{Sheet}
+use Rattle.model.proofs.Counted.{speed-least, place-of}
+use Rattle.model.proofs.Queues.{length-in, length-slot, length-places, total-places, total-past, total-slot, in-first-places, bearable-upto}
+use Rattle.model.proofs.Refusal.{Ranged, accepted}
+use Rattle.model.proofs.Rooms.{row-accepted}
+use Rattle.model.proofs.Stepper.{state-right, speed-by, speed-number, speed-accepted, byte-on-sheet, byte-enough, moved-by, advance-by, advance-number, advance-accepted}
+use Rattle.model.proofs.Stepping.{energy-small}
+use Rattle.slot.proofs.Places.{total-in}
+use Rattle.stepper.specs.Calls.{stateOf}
+use Rattle.stepper.specs.declared.state.State.{State}
+use Rattle.stepper.specs.declared.state.Stepped.{Stepped}
+use Rattle.stepper.specs.declared.state.Told.{Told}
+use Rattle.demands.specs.Calls.{Speeds, Advances}
+use Rattle.demands.specs.NoWrap.{work, IsLeft, IsAdded, IsCarried, SpeedEnough, NoneWraps}
+use Rattle.demands.proofs.Determined.{state-same, speed-is, advance-is}
+
+-- in numbers
+
+-- what the library's minus leaves is what is left
+left-is : (before speed : ℕ) → IsLeft before speed (before - speed)
+left-is before speed = go (leb speed before) refl
+  where
+    go : (b : Bool) → leb speed before ≡ b → IsLeft before speed (before - speed)
+    go true e = let upto = leb-true speed before e in inl (omega arith)
+    go false e = let less = leb-false speed before e in inr (less, omega arith)
+
+-- what the model adds is what is added
+added-is : (size deadline u : ℕ) → IsAdded size deadline u (cond (leb deadline u) size 0)
+added-is size deadline u = go (leb deadline u) refl
+  where
+    go : (b : Bool) → leb deadline u ≡ b → IsAdded size deadline u (cond b size 0)
+    go true e = inl (leb-true deadline u e, refl)
+    go false e = inr (leb-false deadline u e, refl)
+
+module _ (sheet : Sheet) (bytes : List ℕ) (x : State) where
+  abbrev s : Counted
+  s = counted sheet
+
+  -- the state, as the model says it
+  abbrev before : model.State
+  before = stateOf x
+
+  -- what the plan holds for it
+  abbrev byte : ℕ
+  byte = model.planByte s bytes before
+
+  module _ (quiet : model.speedRefusal s bytes before ≡ 0) where
+    -- where a speed call is not refused, the sheet keeps every range
+    ranges : Ranged s
+    ranges = accepted s (row-accepted s (length bytes) (speed-accepted s bytes before quiet .0) .0) .ranged
+
+    -- and the plan byte is a sheet speed and at least w(1)
+    byte-right : SpeedEnough sheet x byte
+    byte-right =
+        let right = speed-accepted s bytes before quiet .2 in
+        record {
+          on-sheet = byte-on-sheet s before byte right;
+          enough = omega (arith, byte-enough s before byte right, total-in (s .bound) (x .queue) 1 (ranges .bound-low));
+        }
+
+    -- it is what is told
+    told-byte : {b : Told} → Speeds x sheet bytes b → (b .number ≡ 0) × (b .speed ≡ byte)
+    told-byte call =
+        let promised = speed-is call in
+        let law = speed-by s bytes before quiet in (
+          promised .number-is ∙ ap (λ (r : model.Told). r .number) law,
+          promised .speed-is ∙ ap (λ (r : model.Told). r .speed) law,
+        )
+
+  -- speed: where it answers 0, a sheet speed that is at least w(1)
+  pub speed-enough : {b : Told} → Speeds x sheet bytes b → b .number ≡ 0 → SpeedEnough sheet x (b .speed)
+  speed-enough call e =
+      let quiet = sym (speed-number s bytes before .0) ∙ sym (speed-is call .number-is) ∙ e in
+      subst (SpeedEnough sheet x) (sym (told-byte quiet call .1)) (byte-right quiet)
+
+  -- an advance by the arrival that is not refused, from a state whose queue stands in six places, which is what the machine gives
+  module _ (size deadline : ℕ) (six : length (x .queue) ≡ positions) (zero : model.advanceRefusal s bytes before size deadline ≡ 0) where
+    quiet-speed : model.speedRefusal s bytes before ≡ 0
+    quiet-speed = advance-accepted s bytes before size deadline zero .0
+
+    -- w(1) to w(D), and what the slot and the arrival make of it
+    abbrev queue : Queue
+    queue = model.queueOf s before
+
+    abbrev next : Queue
+    next = oneSlot queue byte size deadline
+
+    few : s .bound ≤ 6
+    few = ranges quiet-speed .bound-high
+
+    long : length queue ≡ s .bound
+    long = length-in (s .bound) (x .queue) (omega (arith, six, few))
+
+    next-long : length next ≡ s .bound
+    next-long = length-slot queue byte size deadline ∙ long
+
+    next-bearable : T (bearable (M s) next)
+    next-bearable =
+        subst (λ (w : Queue). T (bearable (M s) w))
+        (ap (model.queueOf s) (moved-by s before byte size deadline) ∙ in-first-places (s .bound) next next-long few)
+        (advance-accepted s bytes before size deadline zero .1)
+
+    -- a total comes from the one that stood at v, which is one position later, or the last
+    from-place : (u v : ℕ) → 1 ≤ u → u ≤ s .bound → v ≤ s .bound → min (suc u) (s .bound) ≡ v →
+        IsCarried (work x v) byte size deadline u (total (placesOf next) u)
+    from-place u v low high in-queue place =
+        let last = ap (λ (D : ℕ). total queue (min (suc u) D)) long ∙ ap (total queue) place ∙ total-in (s .bound) (x .queue) v in-queue in
+        record {
+          left = work x v - byte;
+          added = cond (leb deadline u) size 0;
+          is-left = left-is (work x v) byte;
+          is-added = added-is size deadline u;
+          adds-up =
+              total-places next u (omega (arith, few)) ∙ total-slot queue byte size deadline u low (omega (arith, long)) ∙
+              ap (λ (n : ℕ). n - byte + cond (leb deadline u) size 0) last;
+        }
+
+    -- the next queue in its places, position by position
+    upto-M : (u : ℕ) → u ≤ s .bound → total (placesOf next) u ≤ u * M s
+    upto-M u h = omega (arith, total-places next u (omega (arith, few)), bearable-upto (M s) next next-bearable u (omega (arith, next-long)))
+
+    past-zero : (u : ℕ) → s .bound < u → total (placesOf next) u ≡ 0
+    past-zero u h = go (leb u 6) refl
+      where
+        go : (b : Bool) → leb u 6 ≡ b → total (placesOf next) u ≡ 0
+        go true e = total-places next u (leb-true u 6 e) ∙ total-past next u (omega (arith, next-long))
+        go false e = total-past (placesOf next) u (omega (arith, length-places next, leb-false u 6 e))
+
+    -- no total is above 48
+    small : (u : ℕ) → total (placesOf next) u ≤ 48
+    small u = go (leb u (s .bound)) refl
+      where
+        slow : M s ≤ 8
+        slow = speed-least s 8 (λ a on. let (j, l, at) = place-of s a on in omega (arith, ranges quiet-speed .speed-high j l, at))
+
+        go : (b : Bool) → leb u (s .bound) ≡ b → total (placesOf next) u ≤ 48
+        go true e =
+            let upto = leb-true u (s .bound) e in
+            let six-at-most : u ≤ 6 = omega (arith, few) in
+            omega (arith, upto-M u upto, mul-le-mul six-at-most slow)
+        go false e = omega (arith, past-zero u (leb-false u (s .bound) e))
+
+    -- what the model says of the counts
+    said : NoneWraps sheet x byte size deadline (record { queue = placesOf next; slot = suc (x .slot); energy = x .energy + energyOf s byte })
+    said =
+        let right = speed-accepted s bytes before quiet-speed in
+        let upto = state-right s before (right .1) in
+        let room = energy-small s (row-accepted s (length bytes) (right .0) .0) before (right .1) byte (byte-on-sheet s before byte (right .2)) in
+        record {
+          carried = λ u low h. from-place u (suc u) low (le-of-lt h) h (omega arith);
+          carried-last = from-place (s .bound) (s .bound) (ranges quiet-speed .bound-low) (le-refl _) (le-refl _) (omega arith);
+          finishable = upto-M;
+          unused = past-zero;
+          slot-is = refl;
+          energy-is = refl;
+          fits =
+              record {
+                work-fits = λ u. omega (arith, small u);
+                slot-fits = omega (arith, upto .1, ranges quiet-speed .horizon-high);
+                energy-fits = omega (arith, room);
+              };
+        }
+
+  -- advance: where it answers 0, the speed told is a sheet speed and at least w(1), and no count wraps
+  pub no-count-wraps : {size deadline : ℕ} {told : Told} {b : Stepped} → length (x .queue) ≡ positions → Speeds x sheet bytes told →
+      Advances x sheet bytes size deadline b → b .number ≡ 0 →
+      (told .number ≡ 0) × SpeedEnough sheet x (told .speed) × NoneWraps sheet x (told .speed) size deadline (b .state)
+  no-count-wraps {size} {deadline} {told} {b} six asked call e =
+      let promised = advance-is call in
+      let zero = sym (advance-number s bytes before size deadline .0) ∙ sym (promised .number-is) ∙ e in
+      let quiet = quiet-speed size deadline six zero in
+      let tells = told-byte quiet asked in
+      let moved = promised .state-is ∙ ap (λ (r : model.Stepped). r .state) (advance-by s bytes before size deadline zero) ∙
+      moved-by s before byte size deadline in (
+        tells .0,
+        speed-enough asked (tells .0),
+        subst (λ (speed : ℕ). NoneWraps sheet x speed size deadline (b .state)) (sym (tells .1))
+            (subst (NoneWraps sheet x byte size deadline) (sym (state-same moved)) (said size deadline six zero)),
+      )

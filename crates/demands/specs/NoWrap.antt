@@ -1,0 +1,53 @@
+-- What a slot does to each count of a state, in plain whole numbers, so that nobody needs to know a minus or a width. The governor that
+-- Harzschale replaces kept its waiting work in a signed byte, and read a backlog of 130 as minus 126.
+use Prim.Native.Nat.{ℕ, suc, _+_, _*_, _≤_, _<_}
+use mathlib.Core.Path.{_≡_}
+use mathlib.Core.Logic.{_⊎_}
+use lib.Dec.{T}
+use Rattle.model.specs.Counted.{counted, onSheet, energyOf, M}
+use Rattle.model.specs.Queue.{total}
+use Rattle.model.specs.declared.Sheet.{Sheet}
+use Rattle.stepper.specs.declared.state.State.{State}
+
+-- w(u) as it stands in a state
+abbrev pub work : State → ℕ → ℕ
+work x u = total (x .queue) u
+
+-- what a slot at a speed leaves of some work: what with the speed makes up the work, or nothing where the work is less than the speed
+abbrev pub IsLeft : (before speed left : ℕ) → Type 0
+IsLeft before speed left = (left + speed ≡ before) ⊎ ((before < speed) × (left ≡ 0))
+
+-- what an arrival adds to w(u): its size where it is due within u slots, else nothing
+abbrev pub IsAdded : (size deadline u added : ℕ) → Type 0
+IsAdded size deadline u added = ((deadline ≤ u) × (added ≡ size)) ⊎ ((u < deadline) × (added ≡ 0))
+
+-- w(u) after a slot and an arrival, where `before` is the work that was due one slot later
+pub record IsCarried (before speed size deadline u after : ℕ) : Type 0 where
+  pub left : ℕ
+  pub added : ℕ
+  pub is-left : IsLeft before speed left
+  pub is-added : IsAdded size deadline u added
+  pub adds-up : after ≡ left + added
+
+-- every count is below 2^32, so that it stands in its 32 bits as it is
+pub record Fits (x : State) : Type 0 where
+  pub work-fits : (u : ℕ) → work x u < 4294967296
+  pub slot-fits : x .slot < 4294967296
+  pub energy-fits : x .energy < 4294967296
+
+-- a speed that is told in a state is on the sheet, and enough for what is due within one slot
+pub record SpeedEnough (sheet : Sheet) (x : State) (speed : ℕ) : Type 0 where
+  pub on-sheet : T (onSheet (counted sheet) speed)
+  pub enough : work x 1 ≤ speed
+
+-- what a slot at this speed and then this arrival make of the counts of `before`
+pub record NoneWraps (sheet : Sheet) (before : State) (speed size deadline : ℕ) (after : State) : Type 0 where
+  -- "w'(u) = w(u+1) - s, or 0 if that is negative, with w(D) standing for w(D+1)"; "c is added to w'(u) for every u from d to D"
+  pub carried : (u : ℕ) → 1 ≤ u → u < counted sheet .bound → IsCarried (work before (suc u)) speed size deadline u (work after u)
+  pub carried-last : let D = counted sheet .bound in IsCarried (work before D) speed size deadline D (work after D)
+  -- what is left can be finished: no total is above u times M, and past D nothing stands
+  pub finishable : (u : ℕ) → u ≤ counted sheet .bound → work after u ≤ u * M (counted sheet)
+  pub unused : (u : ℕ) → counted sheet .bound < u → work after u ≡ 0
+  pub slot-is : after .slot ≡ suc (before .slot)
+  pub energy-is : after .energy ≡ before .energy + energyOf (counted sheet) speed
+  pub fits : Fits after
