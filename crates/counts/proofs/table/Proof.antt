@@ -1,8 +1,9 @@
--- `table` meets its contract: the constant passes the test of proofs/Rule.antt, which the checker computes here.
+-- `table` meets its contract: the constant passes the test of specs/Rule.antt, which the checker computes here.
 use mathlib.Core.Path.{refl}
 use Rattle.process.specs.Sums.{sum}
 use Rattle.model.specs.Tests.{everywhere}
-use Rattle.counts.proofs.Rule.{row, rule, rowRuled, ruled, ruled-holds}
+use Rattle.counts.specs.Rule.{row, rule, rowRuled, ruled}
+use Rattle.counts.proofs.Rule.{ruled-holds}
 use Rattle.counts.proofs.table.Statement.{statement}
 use Rattle.counts.proofs.table.Tie as tie
 
