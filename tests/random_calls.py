@@ -505,6 +505,25 @@ def add_edge(script, sheet, name):
     script.say(f"sum row {sheet.horizon}")
 
 
+def add_sums(script):
+    """Arrivals that, with what waits, make up just what a signed byte or a byte would take for
+    less than it is: no queue can bear one, and no plan has one."""
+    most = 8  # M
+    sizes = [whole - waiting for whole in (128, 256) for waiting in range(1, most + 1)]
+    sheet = Sheet(2, ((0, 1), (most, 2)), 1, tuple((1, size, 1 + size % 2) for size in sizes))
+    script.say("# sums that wrap in a byte, and nowhere here")
+    put_sheet(script, sheet)
+    some_plan(script, sheet)
+    script.say("fill plan 0")
+    for waiting in range(1, most + 1):
+        for size in sizes:
+            put_state(script, at((0, waiting)))
+            script.say(f"advance {size} {1 + size % 2}")
+    right_plan(script, sheet)
+    script.say("sum values 0 234")
+    script.say("row 0")
+
+
 def refused_edges(chance):
     """(accepted, refused) sheets of which the second has one slot more and is 9."""
     for _ in range(6):
@@ -540,6 +559,7 @@ def make_script():
         call_all(script, longest_sheet(3))
     for bound, top in (5, 5), (6, 3), (4, 8), (5, 6), (6, 4), (6, 8):
         add_edge(script, plain(bound, top), "the most queues, and more")
+    add_sums(script)
     script.say("# a plan of 53,820 queues")
     put_sheet(script, plain(6, 3))
     right_plan(script, plain(6, 3))
