@@ -6,9 +6,8 @@ use mathlib.Core.List.{List}
 use native.Mathlib.Omega.{arith}
 use borrow.Author.Tests.{le-leb, lt-leb, leb-true, leb-false}
 use lib.Dec.{T, leb, eqb, eqb→eq}
-use lib.ListN.{length, getD, take, drop}
+use lib.ListN.{length, getD, drop}
 use lib.Seq.{getD-take, getD-drop, ext-getD}
-use Rattle.process.specs.Sums.{sum}
 use Rattle.process.proofs.Sums.{sum-same}
 use Rattle.model.specs.Tests.{everywhere}
 use Rattle.model.specs.Queue.{continuationCount}
