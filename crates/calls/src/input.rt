@@ -1,77 +1,82 @@
 // Standard input, line by line.
 use libc::STDIN_FILENO;
 
-// What was read and is not yet handed out: the bytes of a chunk from `at` on, before `end`.
-pub struct Input {
-    pub at: usize,
-    pub end: usize,
-}
-
-// The next byte, unless the input has ended, and what is left.
-struct Next {
-    input: Input,
-    ended: bool,
+// What was read last and how much it is; the byte of it that is handed out, and the place behind that. Nothing was read where the input has
+// ended. The chunk is small, since it is passed on with each byte.
+struct Input {
+    chunk: [u8; 64],
+    end: usize,
     byte: u8,
+    at: usize,
 }
 
-// How long a line is, and greater than its room where it is too long for that; whether the input ended with it; and what is left.
+// How long a line is, and greater than its room where it is too long for that; whether there was one; and what is left.
 pub struct Line {
-    pub input: Input,
+    input: Input,
     pub length: usize,
-    pub ended: bool,
+    pub present: bool,
 }
 
-// The next byte of a chunk.
-fn byte_at(chunk: &[u8], at: usize, end: usize) -> Next {
-    if end <= at || chunk.len() <= at {
-        return Next {
-            input: Input { at: 0, end: 0 },
-            ended: true,
+// What stands before the first line.
+pub fn first_line() -> Line {
+    Line {
+        input: Input {
+            chunk: [0; 64],
+            end: 0,
             byte: 0,
-        };
+            at: 0,
+        },
+        length: 0,
+        present: true,
     }
-    Next {
-        input: Input { at: at + 1, end },
-        ended: false,
-        byte: chunk[at],
+}
+
+// The byte of a chunk at a place.
+fn byte_at(chunk: [u8; 64], end: usize, at: usize) -> Input {
+    let place = at % 64;
+    Input {
+        chunk,
+        end,
+        byte: chunk[place],
+        at: place + 1,
     }
 }
 
 // The next byte of the input.
-fn next_byte(input: Input, chunk: &mut [u8]) -> Next {
+fn next_byte(input: Input) -> Input {
+    let held = input.chunk;
     if input.at < input.end {
-        return byte_at(chunk, input.at, input.end);
+        return byte_at(held, input.end, input.at);
     }
-    let got = libc::read(STDIN_FILENO, chunk);
-    let end = io::count(got, chunk);
-    byte_at(chunk, 0, end)
+    let mut chunk = [0; 64];
+    let got = libc::read(STDIN_FILENO, &mut chunk);
+    let end = io::count(got, &chunk);
+    byte_at(chunk, end, 0)
 }
 
 // Puts a byte behind so many of a line, and answers how many there are then.
-fn put_byte(line: &mut [u8], length: usize, byte: u8) -> usize {
-    if length < line.len() {
-        line[length] = byte;
+fn put_byte(room: &mut [u8], length: usize, byte: u8) -> usize {
+    if length < room.len() {
+        room[length] = byte;
         return length + 1;
     }
     18446744073709551615
 }
 
-// The next line, without its line feed. A loop has to end, and nothing says that a line does: it counts its turns down, from a number that
-// no run uses up.
-pub fn next_line(input: Input, chunk: &mut [u8], line: &mut [u8]) -> Line {
-    let mut next = next_byte(input, chunk);
+// The line behind this one, without its line feed. A loop has to end, and nothing says that a line does: it counts its turns down, from a
+// number that no run uses up.
+pub fn next_line(line: Line, room: &mut [u8]) -> Line {
+    let mut input = next_byte(line.input);
     let mut count = 0;
     let mut turns = 18446744073709551615u64;
-    while 0 < turns && !next.ended && next.byte != 10 {
-        count = put_byte(line, count, next.byte);
-        let rest = next.input;
-        next = next_byte(rest, chunk);
+    while 0 < turns && input.end != 0 && input.byte != 10 {
+        count = put_byte(room, count, input.byte);
+        input = next_byte(input);
         turns -= 1;
     }
-    let rest = next.input;
     Line {
-        input: rest,
+        input,
         length: count,
-        ended: next.ended,
+        present: input.end != 0 || count != 0,
     }
 }

@@ -1,174 +1,182 @@
-// One line of a script: which it is, and what answers it.
-use crate::lent::fill;
-use crate::lent::put;
-use crate::lent::put_all;
-use crate::make::advance;
-use crate::make::list;
-use crate::make::plan;
+// One line of a script: what it asks for, and what answers it.
+use crate::ask::show_memory;
+use crate::ask::show_places;
+use crate::ask::sum_places;
+use crate::kinds::BLANK;
+use crate::kinds::COMMENT;
+use crate::kinds::FILL_BYTES;
+use crate::kinds::FILL_PLAN;
+use crate::kinds::FILL_VALUES;
+use crate::kinds::HEX_BYTE;
+use crate::kinds::NOTHING;
+use crate::kinds::PUT_ALL_BYTES;
+use crate::kinds::PUT_BYTES;
+use crate::kinds::PUT_PLAN;
+use crate::kinds::PUT_VALUES;
+use crate::lent::change_of;
+use crate::lent::changes;
+use crate::lent::put_bytes;
+use crate::lent::put_values;
+use crate::make::least_of;
+use crate::make::look;
+use crate::make::make_plan;
 use crate::make::read;
-use crate::make::row;
-use crate::make::speed;
-use crate::make::start;
+use crate::make::step;
 use crate::make::write;
 use crate::memory::Memory;
-use crate::memory::is_buffer;
-use crate::memory::with_lent;
-use crate::names::ADVANCE;
-use crate::names::BYTES;
-use crate::names::CLEAR;
-use crate::names::FILL;
-use crate::names::LEND;
-use crate::names::LIST;
-use crate::names::PLAN;
-use crate::names::PUT;
-use crate::names::READ;
-use crate::names::ROW;
-use crate::names::SET;
-use crate::names::SHOW;
-use crate::names::SPEED;
-use crate::names::START;
-use crate::names::SUM;
-use crate::names::VALUES;
-use crate::names::WRITE;
+use crate::memory::memory_left;
+use crate::memory::one_more;
 use crate::print::print_end;
+use crate::print::print_field;
 use crate::print::print_words;
-use crate::set::clear;
-use crate::set::lend;
-use crate::set::set;
-use crate::show::show;
-use crate::show::sum;
-use crate::words::Cursor;
-use crate::words::RIGHT;
-use crate::words::UNKNOWN;
-use crate::words::Word;
-use crate::words::name_of;
-use crate::words::take_all_hex;
-use crate::words::word_at;
-use crate::wrong::problem;
+use crate::request::MISSING;
+use crate::request::NO_NUMBER;
+use crate::request::NOT_LENT;
+use crate::request::Request;
+use crate::request::TOO_LONG;
+use crate::request::TOO_MANY;
+use crate::request::UNKNOWN;
+use crate::request::checked;
+use crate::request::request_of;
+use crate::words::DECIMAL;
+use crate::words::HEX;
 ghost use Prim.Native.Nat.{_≤_};
 
-// The cursor behind so many words.
-fn behind(word: Word, words: u64) -> Cursor {
-    Cursor {
-        at: word.to,
-        words,
-        number: 0,
-        problem: RIGHT,
-        most: 0,
+// What is wrong with a word.
+fn print_word_problem(request: Request) {
+    print_field(b"word ", one_more(request.words));
+    if request.problem == MISSING {
+        print_words(b" is missing");
+        return;
     }
+    if request.problem == NO_NUMBER && request.most != HEX_BYTE {
+        print_field(b" is not a number from 0 to ", request.most);
+        return;
+    }
+    if request.problem == TOO_MANY {
+        print_words(b" is one too many");
+        return;
+    }
+    print_words(b" is not a byte of two hex digits");
 }
 
-// A call that needs no buffer but the plan, to read.
-fn step(memory: Memory, plan: &[u8], line: &[u8], cursor: Cursor, name: u64) -> Memory {
-    if name == START {
-        return start(memory, line, cursor);
+// What is wrong with a line.
+fn print_problem(request: Request) {
+    if request.problem == TOO_LONG {
+        print_words(b"the line is longer than 65536 bytes");
+        return;
     }
-    if name == SPEED {
-        return speed(memory, plan, line, cursor);
+    if request.problem == UNKNOWN {
+        print_words(b"no line begins so");
+        return;
     }
-    if name == ADVANCE {
-        return advance(memory, plan, line, cursor);
+    if request.problem == NOT_LENT {
+        print_field(b"only ", request.most);
+        print_words(b" places are lent");
+        return;
     }
-    if name == ROW {
-        return row(memory, plan, line, cursor);
-    }
-    problem(memory, UNKNOWN)
+    print_word_problem(request);
 }
 
-// A line whose first word says it all.
-fn one_word(
+// Answers a line that needs no buffer, and says what it leaves: one that is not understood is counted.
+fn settled(memory: Memory, line: &[u8], request: Request) -> Memory {
+    if request.kind == NOTHING {
+        print_words(b"not understood: ");
+        print_problem(request);
+        print_end();
+        let mut next = memory;
+        next.wrong = one_more(memory.wrong);
+        return next;
+    }
+    if request.kind == COMMENT {
+        print_words(line);
+        print_end();
+        return memory;
+    }
+    if request.kind == BLANK {
+        print_end();
+        return memory;
+    }
+    let numbers = request.numbers;
+    memory_left(memory, request.kind, numbers, request.count)
+}
+
+// Answers a line that leaves the lent places as they are.
+fn ask(
     memory: Memory,
-    values: &mut [u64],
-    bytes_of_plan: &mut [u8],
-    bytes: &mut [u8],
-    line: &[u8],
-    cursor: Cursor,
-    name: u64,
+    values: &[u64],
+    plan: &[u8],
+    bytes: &[u8],
+    kind: usize,
+    numbers: [u32; 8],
 ) -> Memory {
-    if name == READ {
-        return read(memory, bytes_of_plan, bytes, line, cursor);
-    }
-    if name == WRITE {
-        return write(memory, bytes, line, cursor);
-    }
-    if name == PLAN {
-        return plan(memory, values, bytes_of_plan, line, cursor);
-    }
-    if name == LIST {
-        return list(memory, bytes_of_plan, bytes, line, cursor);
-    }
-    if name == CLEAR {
-        return clear(memory, line, cursor);
-    }
-    if name == BYTES {
-        return put_all(memory, bytes, line, cursor);
-    }
-    step(memory, bytes_of_plan, line, cursor, name)
+    look(memory, plan, kind, numbers[0]);
+    show_memory(memory, kind);
+    show_places(values, plan, bytes, kind, numbers[0], numbers[1]);
+    sum_places(values, plan, bytes, kind, numbers[0], numbers[1]);
+    let sheet = read(memory.sheet, plan, bytes, kind);
+    let state = step(memory, plan, kind, numbers[0], numbers[1]);
+    let mut next = memory;
+    next.sheet = sheet;
+    next.state = state;
+    next
 }
 
-// How many places of a buffer are lent.
-fn lent_of(values: &[u64], plan: &[u8], bytes: &[u8], name: u64) -> usize {
-    if name == VALUES {
-        return values.len();
-    }
-    if name == PLAN {
-        return plan.len();
-    }
-    bytes.len()
+// Changes lent places, where the line says what to put there.
+fn put(values: &mut [u64], plan: &mut [u8], bytes: &mut [u8], line: &[u8], request: Request) {
+    let change = change_of(request, line);
+    let value_count = changes(
+        change,
+        FILL_VALUES,
+        PUT_VALUES,
+        PUT_VALUES,
+        values.len() as u64,
+    );
+    let plan_count = changes(change, FILL_PLAN, PUT_PLAN, PUT_PLAN, plan.len() as u64);
+    let byte_count = changes(
+        change,
+        FILL_BYTES,
+        PUT_BYTES,
+        PUT_ALL_BYTES,
+        bytes.len() as u64,
+    );
+    put_values(values, line, change, value_count);
+    put_bytes(plan, line, change, plan_count, DECIMAL);
+    put_bytes(bytes, line, change, byte_count, HEX);
 }
 
-// A line whose second word says of what.
-fn two_words(
+// Changes lent places by what the line puts there, or by its call; and says what least energy is left.
+fn change(
     memory: Memory,
     values: &mut [u64],
     plan: &mut [u8],
     bytes: &mut [u8],
     line: &[u8],
-    first: u64,
-    cursor: Cursor,
-    name: u64,
-) -> Memory {
-    let lent = lent_of(values, plan, bytes, name);
-    if first == SHOW {
-        return show(memory, values, plan, bytes, line, cursor, name, lent);
+    request: Request,
+) -> u64 {
+    if request.kind <= PUT_BYTES {
+        put(values, plan, bytes, line, request);
+        return memory.least;
     }
-    if first == SUM {
-        return sum(memory, values, plan, bytes, line, cursor, name, lent);
-    }
-    if !is_buffer(name) {
-        return problem(memory, UNKNOWN);
-    }
-    if first == FILL {
-        return fill(memory, values, plan, bytes, line, cursor, name);
-    }
-    put(memory, values, plan, bytes, line, cursor, name, lent)
+    let listed = least_of(memory.least, request);
+    write(memory.sheet, listed, plan, bytes, request.kind);
+    make_plan(memory.sheet, memory.least, values, plan, request.kind)
 }
 
-// Answers a line of words, over the lent places.
+// Answers a line over the lent places: each of these looks whether the line is its own.
 fn answer(
     memory: Memory,
     values: &mut [u64],
     plan: &mut [u8],
     bytes: &mut [u8],
     line: &[u8],
+    request: Request,
 ) -> Memory {
-    let word = word_at(line, 0);
-    let name = name_of(line, word);
-    if name == SHOW || name == SUM || name == FILL || name == PUT {
-        let second = word_at(line, word.to);
-        let of = name_of(line, second);
-        return two_words(
-            memory,
-            values,
-            plan,
-            bytes,
-            line,
-            name,
-            behind(second, 2),
-            of,
-        );
-    }
-    one_word(memory, values, plan, bytes, line, behind(word, 1), name)
+    let numbers = request.numbers;
+    let least = change(memory, values, plan, bytes, line, request);
+    let mut next = memory;
+    next.least = least;
+    ask(next, values, plan, bytes, request.kind, numbers)
 }
 
 // The smaller of two numbers.
@@ -188,76 +196,33 @@ fn answer_lent(
     plan: &mut [u8],
     bytes: &mut [u8],
     line: &[u8],
+    request: Request,
 ) -> Memory {
-    let value_count = smaller(memory.values, values.len());
-    let plan_count = smaller(memory.plan, plan.len());
-    let byte_count = smaller(memory.bytes, bytes.len());
+    let value_count = smaller(memory.values as usize, values.len());
+    let plan_count = smaller(memory.plan as usize, plan.len());
+    let byte_count = smaller(memory.bytes as usize, bytes.len());
     answer(
         memory,
         &mut values[..value_count],
         &mut plan[..plan_count],
         &mut bytes[..byte_count],
         line,
+        request,
     )
 }
 
-// What memory lends once a line `bytes HH ..` is read, where its words are right.
-fn lending(memory: Memory, line: &[u8], cursor: Cursor) -> Memory {
-    let end = take_all_hex(line, cursor);
-    if end.problem != RIGHT {
-        return memory;
-    }
-    if end.words < 1 {
-        return memory;
-    }
-    with_lent(memory, BYTES, end.words - 1)
-}
-
-// Answers a line that has words: `set` and `lend` need no buffer, `bytes` lends before it puts.
-fn answer_words(
-    memory: Memory,
-    values: &mut [u64],
-    plan: &mut [u8],
-    bytes: &mut [u8],
-    line: &[u8],
-) -> Memory {
-    let word = word_at(line, 0);
-    let name = name_of(line, word);
-    let second = word_at(line, word.to);
-    if name == SET {
-        return set(memory, line, behind(second, 2), name_of(line, second));
-    }
-    if name == LEND {
-        return lend(memory, line, behind(second, 2), name_of(line, second));
-    }
-    if name == BYTES {
-        let lent = lending(memory, line, behind(word, 1));
-        return answer_lent(lent, values, plan, bytes, line);
-    }
-    answer_lent(memory, values, plan, bytes, line)
-}
-
-// Answers a line: one that begins with `#` is copied, one without words answered by an empty line.
+// Answers a line of so many bytes, of which its room holds as many as it can.
 pub fn answer_line(
     memory: Memory,
     values: &mut [u64],
     plan: &mut [u8],
     bytes: &mut [u8],
-    line: &[u8],
+    room: &[u8],
+    length: usize,
 ) -> Memory {
-    if line.len() == 0 {
-        print_end();
-        return memory;
-    }
-    if line[0] == 35 {
-        print_words(line);
-        print_end();
-        return memory;
-    }
-    let word = word_at(line, 0);
-    if word.from == word.to {
-        print_end();
-        return memory;
-    }
-    answer_words(memory, values, plan, bytes, line)
+    let held = smaller(length, room.len());
+    let line = &room[..held];
+    let request = checked(request_of(line), length == held, memory);
+    let left = settled(memory, line, request);
+    answer_lent(left, values, plan, bytes, line, request)
 }

@@ -1,20 +1,21 @@
 // What one line leaves and the next one uses: the sheet, the state, how much of each buffer is lent, the least energy of the last plan; and
-// how many lines were not understood.
-use crate::names::BOUND;
-use crate::names::BYTES;
-use crate::names::HORIZON;
-use crate::names::PLAN;
-use crate::names::SPEEDS;
-use crate::names::VALUES;
+// how many lines were not understood. The lines that set these are here.
+use crate::kinds::CLEAR_SHEET;
+use crate::kinds::LEND_BYTES;
+use crate::kinds::LEND_PLAN;
+use crate::kinds::LEND_VALUES;
+use crate::kinds::PUT_ALL_BYTES;
+use crate::kinds::SET_BOUND;
+use crate::kinds::SET_HORIZON;
+use crate::kinds::SET_JOB;
+use crate::kinds::SET_JOBS;
+use crate::kinds::SET_SPEED;
+use crate::kinds::SET_SPEEDS;
+use crate::kinds::SET_STATE;
 use model::Job;
 use model::Sheet;
 use model::Speed;
 use stepper::State;
-
-// The greatest number of 32 bits, and of 64.
-pub const MOST: u64 = 4294967295;
-
-pub const MOST_WIDE: u64 = 18446744073709551615;
 
 // How many places each buffer has.
 pub const VALUE_PLACES: u64 = 816816;
@@ -27,9 +28,9 @@ pub struct Memory {
     pub sheet: Sheet,
     pub state: State,
     pub least: u64,
-    pub values: usize,
-    pub plan: usize,
-    pub bytes: usize,
+    pub values: u32,
+    pub plan: u32,
+    pub bytes: u32,
     pub wrong: u64,
 }
 
@@ -47,7 +48,7 @@ pub fn narrow(number: u64) -> u32 {
 }
 
 // The sheet with zero at every place.
-pub fn no_sheet() -> Sheet {
+fn no_sheet() -> Sheet {
     Sheet {
         bound: 0,
         speed_count: 0,
@@ -82,93 +83,97 @@ pub fn no_memory() -> Memory {
     }
 }
 
-// One of the four single fields of the sheet.
-pub fn with_field(memory: Memory, name: u64, number: u32) -> Memory {
-    let mut next = memory;
-    if name == BOUND {
-        next.sheet.bound = number;
-        return next;
-    }
-    if name == SPEEDS {
-        next.sheet.speed_count = number;
-        return next;
-    }
-    if name == HORIZON {
-        next.sheet.horizon = number;
-        return next;
-    }
-    next.sheet.job_count = number;
+// `set speed PLACE SPEED ENERGY`.
+fn with_speed(sheet: Sheet, numbers: [u32; 8]) -> Sheet {
+    let place = (numbers[0] % 9) as usize;
+    let mut next = sheet;
+    next.speeds[place] = Speed {
+        speed: numbers[1],
+        energy: numbers[2],
+    };
     next
 }
 
-// One speed of the sheet.
-pub fn with_speed(memory: Memory, place: u64, speed: u64, energy: u64) -> Memory {
-    let place = (place % 9) as usize;
-    let one = Speed {
-        speed: narrow(speed),
-        energy: narrow(energy),
+// `set job PLACE WEIGHT SIZE DEADLINE`.
+fn with_job(sheet: Sheet, numbers: [u32; 8]) -> Sheet {
+    let place = (numbers[0] % 32) as usize;
+    let mut next = sheet;
+    next.jobs[place] = Job {
+        weight: numbers[1],
+        size: numbers[2],
+        deadline: numbers[3],
     };
-    let mut sheet = memory.sheet;
-    sheet.speeds[place] = one;
+    next
+}
+
+// What a line leaves of the sheet.
+pub fn sheet_left(sheet: Sheet, kind: usize, numbers: [u32; 8]) -> Sheet {
+    let mut next = sheet;
+    if kind == SET_BOUND {
+        next.bound = numbers[0];
+    }
+    if kind == SET_SPEEDS {
+        next.speed_count = numbers[0];
+    }
+    if kind == SET_HORIZON {
+        next.horizon = numbers[0];
+    }
+    if kind == SET_JOBS {
+        next.job_count = numbers[0];
+    }
+    if kind == SET_SPEED {
+        return with_speed(sheet, numbers);
+    }
+    if kind == SET_JOB {
+        return with_job(sheet, numbers);
+    }
+    if kind == CLEAR_SHEET {
+        return no_sheet();
+    }
+    next
+}
+
+// What a line leaves of the state.
+pub fn state_left(state: State, kind: usize, numbers: [u32; 8]) -> State {
+    if kind != SET_STATE {
+        return state;
+    }
+    State {
+        queue: [
+            numbers[0],
+            numbers[1],
+            numbers[2],
+            numbers[3],
+            numbers[4],
+            numbers[5],
+        ],
+        slot: numbers[6],
+        energy: numbers[7],
+    }
+}
+
+// What a line that sets or lends something leaves; `bytes` lends as many places as it has numbers.
+pub fn memory_left(memory: Memory, kind: usize, numbers: [u32; 8], count: u64) -> Memory {
     let mut next = memory;
+    if kind == LEND_VALUES {
+        next.values = numbers[0];
+        return next;
+    }
+    if kind == LEND_PLAN {
+        next.plan = numbers[0];
+        return next;
+    }
+    if kind == LEND_BYTES {
+        next.bytes = numbers[0];
+        return next;
+    }
+    if kind == PUT_ALL_BYTES {
+        next.bytes = narrow(count);
+        return next;
+    }
+    let sheet = sheet_left(memory.sheet, kind, numbers);
+    let state = state_left(memory.state, kind, numbers);
     next.sheet = sheet;
-    next
-}
-
-// One job of the sheet.
-pub fn with_job(memory: Memory, place: u64, weight: u64, size: u64, deadline: u64) -> Memory {
-    let place = (place % 32) as usize;
-    let one = Job {
-        weight: narrow(weight),
-        size: narrow(size),
-        deadline: narrow(deadline),
-    };
-    let mut sheet = memory.sheet;
-    sheet.jobs[place] = one;
-    let mut next = memory;
-    next.sheet = sheet;
-    next
-}
-
-// The state.
-pub fn with_state(memory: Memory, queue: [u32; 6], slot: u32, energy: u32) -> Memory {
-    let state = State {
-        queue,
-        slot,
-        energy,
-    };
-    let mut next = memory;
     next.state = state;
     next
-}
-
-// So many places of a buffer lent.
-pub fn with_lent(memory: Memory, name: u64, count: u64) -> Memory {
-    let mut next = memory;
-    if name == VALUES {
-        next.values = count as usize;
-        return next;
-    }
-    if name == PLAN {
-        next.plan = count as usize;
-        return next;
-    }
-    next.bytes = count as usize;
-    next
-}
-
-// How many places a buffer has.
-pub fn places_of(name: u64) -> u64 {
-    if name == VALUES {
-        return VALUE_PLACES;
-    }
-    if name == PLAN {
-        return PLAN_PLACES;
-    }
-    BYTE_PLACES
-}
-
-// Whether a name is a buffer's.
-pub fn is_buffer(name: u64) -> bool {
-    name == VALUES || name == PLAN || name == BYTES
 }

@@ -1,30 +1,20 @@
-// What answers are printed with.
+// What answers are printed with, and the checksum of what is walked over.
 use libc::STDOUT_FILENO;
+ghost use Prim.Native.Nat.{_<_};
+
+// What a walk does with each number: nothing but the checksum, or it prints a space and the number in decimal or in hex; or it prints text,
+// and its answer is the last byte instead of the checksum.
+pub const SILENT: u32 = 0;
+
+pub const IN_DECIMAL: u32 = 1;
+
+pub const IN_HEX: u32 = 2;
+
+pub const AS_TEXT: u32 = 3;
 
 // Words as they are.
 pub fn print_words(words: &[u8]) {
     io::write_all(STDOUT_FILENO, words);
-}
-
-// A space and a number.
-pub fn print_wide(number: u64) {
-    print_field(b" ", number);
-}
-
-// The same of a number of 32 bits.
-pub fn print_number(number: u32) {
-    print_wide(number as u64);
-}
-
-// The same of a byte.
-fn print_small(byte: u8) {
-    print_wide(byte as u64);
-}
-
-// A space and a byte in hex.
-fn print_hex(byte: u8) {
-    print_words(b" ");
-    io::print_hex(STDOUT_FILENO, byte as u64, 2);
 }
 
 // Words, and a number behind them.
@@ -36,48 +26,6 @@ pub fn print_field(words: &[u8], number: u64) {
 // The end of an answer.
 pub fn print_end() {
     print_words(b"\n");
-}
-
-// So many values from a place on, each after a space.
-pub fn print_values(values: &[u64], from: usize, count: usize) {
-    let mut at = from;
-    let mut left = count;
-    while at < values.len() {
-        if left == 0 {
-            return;
-        }
-        print_wide(values[at]);
-        left -= 1;
-        at += 1;
-    }
-}
-
-// The same of bytes.
-pub fn print_bytes(bytes: &[u8], from: usize, count: usize) {
-    let mut at = from;
-    let mut left = count;
-    while at < bytes.len() {
-        if left == 0 {
-            return;
-        }
-        print_small(bytes[at]);
-        left -= 1;
-        at += 1;
-    }
-}
-
-// The same of bytes, in hex.
-pub fn print_hex_bytes(bytes: &[u8], from: usize, count: usize) {
-    let mut at = from;
-    let mut left = count;
-    while at < bytes.len() {
-        if left == 0 {
-            return;
-        }
-        print_hex(bytes[at]);
-        left -= 1;
-        at += 1;
-    }
 }
 
 // A byte as text: a line feed and what can be printed as they are, any other as a question mark.
@@ -93,18 +41,61 @@ fn print_letter(byte: u8) {
     print_words(&[byte]);
 }
 
-// So many bytes from a place on as text, and a line feed unless they end in one or are none.
-pub fn print_text(bytes: &[u8], from: usize, count: usize) {
-    let mut at = from;
+// What a walk has, and one number more.
+fn with_number(sum: u64, number: u64, form: u32) -> u64
+    requires { ⌜ sum < 4294967291 ⌝ }
+    ensures { λ r. ⌜ r < 4294967291 ⌝ }
+{
+    if form == IN_DECIMAL {
+        print_field(b" ", number);
+    }
+    (sum * 1000003 + number % 4294967291) % 4294967291
+}
+
+// The same of a byte.
+fn with_byte(sum: u64, byte: u8, form: u32) -> u64
+    requires { ⌜ sum < 4294967291 ⌝ }
+    ensures { λ r. ⌜ r < 4294967291 ⌝ }
+{
+    if form == AS_TEXT {
+        print_letter(byte);
+        return byte as u64;
+    }
+    if form == IN_HEX {
+        print_words(b" ");
+        io::print_hex(STDOUT_FILENO, byte as u64, 2);
+    }
+    with_number(sum, byte as u64, form)
+}
+
+// Walks over so many values from a place on.
+pub fn walk_values(values: &[u64], from: u32, count: u32, form: u32) -> u64 {
+    let mut sum = 0;
+    let mut at = from as usize;
     let mut left = count;
-    let mut last = 10;
-    while at < bytes.len() && 0 < left {
-        last = bytes[at];
-        print_letter(last);
+    while at < values.len() {
+        if left == 0 {
+            return sum;
+        }
+        sum = with_number(sum, values[at], form);
         left -= 1;
         at += 1;
     }
-    if last != 10 {
-        print_end();
+    sum
+}
+
+// The same over bytes.
+pub fn walk_bytes(bytes: &[u8], from: u32, count: u32, form: u32) -> u64 {
+    let mut sum = 0;
+    let mut at = from as usize;
+    let mut left = count;
+    while at < bytes.len() {
+        if left == 0 {
+            return sum;
+        }
+        sum = with_byte(sum, bytes[at], form);
+        left -= 1;
+        at += 1;
     }
+    sum
 }

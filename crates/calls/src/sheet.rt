@@ -2,100 +2,67 @@
 use crate::memory::one_more;
 use crate::print::print_end;
 use crate::print::print_field;
-use crate::print::print_number;
-use crate::print::print_wide;
 use crate::print::print_words;
 use model::Job;
 use model::Sheet;
 use model::Speed;
 use stepper::State;
 
-// The first speeds of a sheet, as many as there are to be, with their energies.
-pub fn print_speeds(sheet: Sheet, count: u32) {
-    let mut place = 0;
-    while place < 9 {
-        if count as usize <= place {
-            return;
-        }
-        let one = sheet.speeds[place];
-        print_number(one.speed);
-        print_number(one.energy);
-        place += 1;
-    }
+// A space and a number of 32 bits.
+fn print_number(number: u32) {
+    print_field(b" ", number as u64);
 }
 
-// The first jobs of a sheet, likewise.
-pub fn print_jobs(sheet: Sheet, count: u32) {
-    let mut place = 0;
-    while place < 32 {
-        if count as usize <= place {
-            return;
-        }
-        let one = sheet.jobs[place];
-        print_number(one.weight);
-        print_number(one.size);
-        print_number(one.deadline);
-        place += 1;
+// A number that counts is printed; of the others those are counted that are not 0.
+fn walk_number(others: u64, number: u32, counts: bool) -> u64 {
+    if counts {
+        print_number(number);
+        return others;
     }
-}
-
-// A count, and one more unless a number is 0.
-fn with_number(count: u64, number: u32) -> u64 {
     if number == 0 {
-        return count;
+        return others;
     }
-    one_more(count)
+    one_more(others)
 }
 
-// The same with each number of a speed.
-fn with_speed(count: u64, one: Speed) -> u64 {
-    with_number(with_number(count, one.speed), one.energy)
-}
-
-// The same with each number of a job.
-fn with_job(count: u64, one: Job) -> u64 {
-    with_number(
-        with_number(with_number(count, one.weight), one.size),
-        one.deadline,
-    )
-}
-
-// How many numbers of speeds past their count are not 0.
-fn other_speeds(sheet: Sheet) -> u64 {
-    let mut count = 0;
+// The numbers of the speeds, of which so many count.
+pub fn walk_speeds(speeds: [Speed; 9], count: u32, others: u64) -> u64 {
+    let mut sum = others;
     let mut place = 0;
     while place < 9 {
-        if sheet.speed_count as usize <= place {
-            count = with_speed(count, sheet.speeds[place]);
-        }
+        let one = speeds[place];
+        let counts = place < count as usize;
+        sum = walk_number(walk_number(sum, one.speed, counts), one.energy, counts);
         place += 1;
     }
-    count
+    sum
 }
 
-// The same of jobs, and those of speeds besides.
-fn other_numbers(sheet: Sheet) -> u64 {
-    let mut count = other_speeds(sheet);
+// The numbers of the jobs, likewise.
+pub fn walk_jobs(jobs: [Job; 32], count: u32, others: u64) -> u64 {
+    let mut sum = others;
     let mut place = 0;
     while place < 32 {
-        if sheet.job_count as usize <= place {
-            count = with_job(count, sheet.jobs[place]);
-        }
+        let one = jobs[place];
+        let counts = place < count as usize;
+        let most = walk_number(walk_number(sum, one.weight, counts), one.size, counts);
+        sum = walk_number(most, one.deadline, counts);
         place += 1;
     }
-    count
+    sum
 }
 
 // A sheet's fields in the order of its bytes, and how many other numbers are not 0, to the line's end.
 pub fn print_sheet(sheet: Sheet) {
+    let speeds = sheet.speeds;
+    let jobs = sheet.jobs;
+    print_words(b"sheet");
     print_number(sheet.bound);
     print_number(sheet.speed_count);
-    print_speeds(sheet, sheet.speed_count);
+    let others = walk_speeds(speeds, sheet.speed_count, 0);
     print_number(sheet.horizon);
     print_number(sheet.job_count);
-    print_jobs(sheet, sheet.job_count);
-    print_words(b", others");
-    print_wide(other_numbers(sheet));
+    print_field(b", others ", walk_jobs(jobs, sheet.job_count, others));
     print_end();
 }
 

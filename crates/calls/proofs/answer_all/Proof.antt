@@ -6,19 +6,17 @@ use Rattle.calls.proofs.answer_all.Statement.{statement}
 use Rattle.calls.proofs.answer_all.Tie as tie
 
 abbrev Inv-loop : tie.InvT-loop
-Inv-loop values₀ plan₀ bytes₀ chunk₀ line₀ script₀ turns₀ values plan bytes chunk line script turns =
-    (length values ≡ length values₀) ×
-    (length plan ≡ length plan₀) ×
-    (length bytes ≡ length bytes₀) ×
-    (length chunk ≡ length chunk₀) ×
-    (length line ≡ length line₀)
+Inv-loop values₀ plan₀ bytes₀ room₀ memory₀ line₀ turns₀ values plan bytes room memory line turns =
+    (length values ≡ length values₀) × (length plan ≡ length plan₀) × (length bytes ≡ length bytes₀) × (length room ≡ length room₀)
 
 abbrev μ-loop : tie.MeasureT-loop
-μ-loop values₀ plan₀ bytes₀ chunk₀ line₀ script₀ turns₀ values plan bytes chunk line script turns =
-    turns
+μ-loop values₀ plan₀ bytes₀ room₀ memory₀ line₀ turns₀ values plan bytes room memory line turns = turns
 
 no-memory-requires : tie.Need-no-memory-requires Inv-loop μ-loop
 no-memory-requires c κs = search needs
+
+first-line-requires : tie.Need-first-line-requires Inv-loop μ-loop
+first-line-requires c κs = search needs
 
 next-line-requires : tie.Need-next-line-requires Inv-loop μ-loop
 next-line-requires c κs = search needs
@@ -26,11 +24,11 @@ next-line-requires c κs = search needs
 loop-holds : tie.Need-loop-holds Inv-loop μ-loop
 loop-holds c = search needs
 
-goes-on-requires : tie.Need-goes-on-requires Inv-loop μ-loop
-goes-on-requires c κs = search needs
+answer-line-requires : tie.Need-answer-line-requires Inv-loop μ-loop
+answer-line-requires c κs = search needs
 
-answer-next-requires : tie.Need-answer-next-requires Inv-loop μ-loop
-answer-next-requires c κs = search needs
+next-line-requires-2 : tie.Need-next-line-requires-2 Inv-loop μ-loop
+next-line-requires-2 c κs = search needs
 
 sub-turns : tie.Need-sub-turns Inv-loop μ-loop
 sub-turns c = search needs
@@ -53,11 +51,23 @@ same-length-3 c = search needs
 same-length-4 : tie.Need-same-length-4 Inv-loop μ-loop
 same-length-4 c = search needs
 
+returns : tie.Need-returns Inv-loop μ-loop
+returns c = search needs
+
 same-length-5 : tie.Need-same-length-5 Inv-loop μ-loop
 same-length-5 c = search needs
 
-returns : tie.Need-returns Inv-loop μ-loop
-returns c = search needs
+same-length-6 : tie.Need-same-length-6 Inv-loop μ-loop
+same-length-6 c = search needs
+
+same-length-7 : tie.Need-same-length-7 Inv-loop μ-loop
+same-length-7 c = search needs
+
+same-length-8 : tie.Need-same-length-8 Inv-loop μ-loop
+same-length-8 c = search needs
+
+returns-2 : tie.Need-returns-2 Inv-loop μ-loop
+returns-2 c = search needs
 
 pub answer-all-spec : {M : Type 1} → statement M
 answer-all-spec =
@@ -66,10 +76,11 @@ answer-all-spec =
     Inv-loop
     μ-loop
     no-memory-requires
+    first-line-requires
     next-line-requires
     loop-holds
-    goes-on-requires
-    answer-next-requires
+    answer-line-requires
+    next-line-requires-2
     sub-turns
     loop-less
     loop-again
@@ -77,5 +88,9 @@ answer-all-spec =
     same-length-2
     same-length-3
     same-length-4
+    returns
     same-length-5
-    returns)
+    same-length-6
+    same-length-7
+    same-length-8
+    returns-2)

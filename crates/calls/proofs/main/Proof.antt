@@ -16,10 +16,7 @@ slice-aggregate-answer-all-3 : tie.Need-slice-aggregate-answer-all-3
 slice-aggregate-answer-all-3 c = sym (length-replicate {0} {A = ℕ} 65536 0)
 
 slice-aggregate-answer-all-4 : tie.Need-slice-aggregate-answer-all-4
-slice-aggregate-answer-all-4 c = sym (length-replicate {0} {A = ℕ} 4096 0)
-
-slice-aggregate-answer-all-5 : tie.Need-slice-aggregate-answer-all-5
-slice-aggregate-answer-all-5 c = sym (length-replicate {0} {A = ℕ} 65536 0)
+slice-aggregate-answer-all-4 c = sym (length-replicate {0} {A = ℕ} 65536 0)
 
 answer-all-requires : tie.Need-answer-all-requires
 answer-all-requires c κs = search needs
@@ -38,7 +35,6 @@ main-spec =
     slice-aggregate-answer-all-2
     slice-aggregate-answer-all-3
     slice-aggregate-answer-all-4
-    slice-aggregate-answer-all-5
     answer-all-requires
     tell-requires
     returns)

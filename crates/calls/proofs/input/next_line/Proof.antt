@@ -6,10 +6,10 @@ use Rattle.calls.proofs.input.next_line.Statement.{statement}
 use Rattle.calls.proofs.input.next_line.Tie as tie
 
 abbrev Inv-loop : tie.InvT-loop
-Inv-loop chunk₀ line₀ next₀ count₀ turns₀ chunk line next count turns = (length chunk ≡ length chunk₀) × (length line ≡ length line₀)
+Inv-loop room₀ input₀ count₀ turns₀ room input count turns = length room ≡ length room₀
 
 abbrev μ-loop : tie.MeasureT-loop
-μ-loop chunk₀ line₀ next₀ count₀ turns₀ chunk line next count turns = turns
+μ-loop room₀ input₀ count₀ turns₀ room input count turns = turns
 
 next-byte-requires : tie.Need-next-byte-requires Inv-loop μ-loop
 next-byte-requires c κs = search needs
@@ -35,11 +35,14 @@ loop-again c = search needs
 same-length : tie.Need-same-length Inv-loop μ-loop
 same-length c = search needs
 
+returns : tie.Need-returns Inv-loop μ-loop
+returns c = search needs
+
 same-length-2 : tie.Need-same-length-2 Inv-loop μ-loop
 same-length-2 c = search needs
 
-returns : tie.Need-returns Inv-loop μ-loop
-returns c = search needs
+returns-2 : tie.Need-returns-2 Inv-loop μ-loop
+returns-2 c = search needs
 
 pub next-line-spec : {M : Type 1} → statement M
 next-line-spec =
@@ -55,5 +58,6 @@ next-line-spec =
     loop-less
     loop-again
     same-length
+    returns
     same-length-2
-    returns)
+    returns-2)

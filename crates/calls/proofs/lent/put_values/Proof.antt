@@ -7,25 +7,34 @@ use Rattle.calls.proofs.lent.put_values.Statement.{statement}
 use Rattle.calls.proofs.lent.put_values.Tie as tie
 
 abbrev Inv-loop : tie.InvT-loop
-Inv-loop values₀ from line at₀ next₀ values at next = length values ≡ length values₀
+Inv-loop values₀ line change count at₀ left₀ next₀ values at left next = length values ≡ length values₀
 
 abbrev μ-loop : tie.MeasureT-loop
-μ-loop values₀ from line at₀ next₀ values at next = length values₀ - at
+μ-loop values₀ line change count at₀ left₀ next₀ values at left next = length values₀ - at
+
+cast-at : tie.Need-cast-at Inv-loop μ-loop
+cast-at c = search needs
 
 loop-holds : tie.Need-loop-holds Inv-loop μ-loop
 loop-holds c = search needs
 
-more-requires : tie.Need-more-requires Inv-loop μ-loop
-more-requires c κs = search needs
+word-at-requires : tie.Need-word-at-requires Inv-loop μ-loop
+word-at-requires c κs = search needs
 
-take-requires : tie.Need-take-requires Inv-loop μ-loop
-take-requires c κs = search needs
+value-of-requires : tie.Need-value-of-requires Inv-loop μ-loop
+value-of-requires c κs = search needs
 
 mul-values : tie.Need-mul-values Inv-loop μ-loop
 mul-values c = search needs
 
 slice-write-values : tie.Need-slice-write-values Inv-loop μ-loop
 slice-write-values c = search needs
+
+behind-requires : tie.Need-behind-requires Inv-loop μ-loop
+behind-requires c κs = search needs
+
+sub-left : tie.Need-sub-left Inv-loop μ-loop
+sub-left c = search needs
 
 add-at : tie.Need-add-at Inv-loop μ-loop
 add-at c = search needs
@@ -54,11 +63,14 @@ put-values-spec =
     (tie.spec
     Inv-loop
     μ-loop
+    cast-at
     loop-holds
-    more-requires
-    take-requires
+    word-at-requires
+    value-of-requires
     mul-values
     slice-write-values
+    behind-requires
+    sub-left
     add-at
     loop-less
     loop-again
