@@ -1,15 +1,4 @@
 // The lines that ask what stands in memory: `show` and `sum`.
-use crate::kinds::SHOW_BYTES;
-use crate::kinds::SHOW_JOBS;
-use crate::kinds::SHOW_PLAN;
-use crate::kinds::SHOW_SHEET;
-use crate::kinds::SHOW_SPEEDS;
-use crate::kinds::SHOW_STATE;
-use crate::kinds::SHOW_TEXT;
-use crate::kinds::SHOW_VALUES;
-use crate::kinds::SUM_BYTES;
-use crate::kinds::SUM_PLAN;
-use crate::kinds::SUM_VALUES;
 use crate::memory::Memory;
 use crate::print::AS_TEXT;
 use crate::print::IN_DECIMAL;
@@ -24,6 +13,17 @@ use crate::sheet::print_sheet;
 use crate::sheet::print_state;
 use crate::sheet::walk_jobs;
 use crate::sheet::walk_speeds;
+use requests::SHOW_BYTES;
+use requests::SHOW_JOBS;
+use requests::SHOW_PLAN;
+use requests::SHOW_SHEET;
+use requests::SHOW_SPEEDS;
+use requests::SHOW_STATE;
+use requests::SHOW_TEXT;
+use requests::SHOW_VALUES;
+use requests::SUM_BYTES;
+use requests::SUM_PLAN;
+use requests::SUM_VALUES;
 
 // `show sheet`, `show speeds`, `show jobs` and `show state`.
 pub fn show_memory(memory: Memory, kind: usize) {

@@ -2,17 +2,6 @@
 use crate::ask::show_memory;
 use crate::ask::show_places;
 use crate::ask::sum_places;
-use crate::kinds::BLANK;
-use crate::kinds::COMMENT;
-use crate::kinds::FILL_BYTES;
-use crate::kinds::FILL_PLAN;
-use crate::kinds::FILL_VALUES;
-use crate::kinds::HEX_BYTE;
-use crate::kinds::NOTHING;
-use crate::kinds::PUT_ALL_BYTES;
-use crate::kinds::PUT_BYTES;
-use crate::kinds::PUT_PLAN;
-use crate::kinds::PUT_VALUES;
 use crate::lent::change_of;
 use crate::lent::changes;
 use crate::lent::put_bytes;
@@ -25,21 +14,32 @@ use crate::make::step;
 use crate::make::write;
 use crate::memory::Memory;
 use crate::memory::memory_left;
-use crate::memory::one_more;
 use crate::print::print_end;
 use crate::print::print_field;
 use crate::print::print_words;
-use crate::request::MISSING;
-use crate::request::NO_NUMBER;
-use crate::request::NOT_LENT;
-use crate::request::Request;
-use crate::request::TOO_LONG;
-use crate::request::TOO_MANY;
-use crate::request::UNKNOWN;
-use crate::request::checked;
-use crate::request::request_of;
-use crate::words::DECIMAL;
-use crate::words::HEX;
+use requests::BLANK;
+use requests::COMMENT;
+use requests::DECIMAL;
+use requests::FILL_BYTES;
+use requests::FILL_PLAN;
+use requests::FILL_VALUES;
+use requests::HEX;
+use requests::HEX_BYTE;
+use requests::MISSING;
+use requests::NO_NUMBER;
+use requests::NOT_LENT;
+use requests::NOTHING;
+use requests::PUT_ALL_BYTES;
+use requests::PUT_BYTES;
+use requests::PUT_PLAN;
+use requests::PUT_VALUES;
+use requests::Request;
+use requests::TOO_LONG;
+use requests::TOO_MANY;
+use requests::UNKNOWN;
+use requests::checked;
+use requests::one_more;
+use requests::request_of;
 ghost use Prim.Native.Nat.{_≤_};
 
 // What is wrong with a word.
@@ -211,6 +211,17 @@ fn answer_lent(
     )
 }
 
+// How many places of the buffer are lent that `put`, `show` or `sum` of a kind reaches.
+fn lent_of(memory: Memory, kind: usize) -> u32 {
+    if kind < PUT_PLAN {
+        return memory.values;
+    }
+    if kind < PUT_BYTES {
+        return memory.plan;
+    }
+    memory.bytes
+}
+
 // Answers a line of so many bytes, of which its room holds as many as it can.
 pub fn answer_line(
     memory: Memory,
@@ -222,7 +233,8 @@ pub fn answer_line(
 ) -> Memory {
     let held = smaller(length, room.len());
     let line = &room[..held];
-    let request = checked(request_of(line), length == held, memory);
+    let asked = request_of(line);
+    let request = checked(asked, length == held, lent_of(memory, asked.kind));
     let left = settled(memory, line, request);
     answer_lent(left, values, plan, bytes, line, request)
 }

@@ -2,15 +2,12 @@
 // proved, and it only lends the memory. What it prints is tested and not proved.
 mod ask;
 mod input;
-mod kinds;
 mod lent;
 mod line;
 mod make;
 mod memory;
 mod print;
-mod request;
 mod sheet;
-mod words;
 
 use input::first_line;
 use input::next_line;

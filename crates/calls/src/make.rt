@@ -1,14 +1,4 @@
 // The lines that make a call. Each function looks whether the line is its own, and does nothing where it is not.
-use crate::kinds::CALL_ADVANCE;
-use crate::kinds::CALL_LIST;
-use crate::kinds::CALL_PLAN;
-use crate::kinds::CALL_READ;
-use crate::kinds::CALL_READ_PLAN;
-use crate::kinds::CALL_ROW;
-use crate::kinds::CALL_SPEED;
-use crate::kinds::CALL_START;
-use crate::kinds::CALL_WRITE;
-use crate::kinds::SUM_ROW;
 use crate::memory::Memory;
 use crate::print::IN_DECIMAL;
 use crate::print::SILENT;
@@ -16,10 +6,20 @@ use crate::print::print_end;
 use crate::print::print_field;
 use crate::print::print_words;
 use crate::print::walk_bytes;
-use crate::request::Request;
 use crate::sheet::print_sheet;
 use crate::sheet::print_state;
 use model::Sheet;
+use requests::CALL_ADVANCE;
+use requests::CALL_LIST;
+use requests::CALL_PLAN;
+use requests::CALL_READ;
+use requests::CALL_READ_PLAN;
+use requests::CALL_ROW;
+use requests::CALL_SPEED;
+use requests::CALL_START;
+use requests::CALL_WRITE;
+use requests::Request;
+use requests::SUM_ROW;
 use stepper::State;
 use stepper::Stepped;
 

@@ -1,28 +1,22 @@
 // What one line leaves and the next one uses: the sheet, the state, how much of each buffer is lent, the least energy of the last plan; and
 // how many lines were not understood. The lines that set these are here.
-use crate::kinds::CLEAR_SHEET;
-use crate::kinds::LEND_BYTES;
-use crate::kinds::LEND_PLAN;
-use crate::kinds::LEND_VALUES;
-use crate::kinds::PUT_ALL_BYTES;
-use crate::kinds::SET_BOUND;
-use crate::kinds::SET_HORIZON;
-use crate::kinds::SET_JOB;
-use crate::kinds::SET_JOBS;
-use crate::kinds::SET_SPEED;
-use crate::kinds::SET_SPEEDS;
-use crate::kinds::SET_STATE;
 use model::Job;
 use model::Sheet;
 use model::Speed;
+use requests::CLEAR_SHEET;
+use requests::LEND_BYTES;
+use requests::LEND_PLAN;
+use requests::LEND_VALUES;
+use requests::PUT_ALL_BYTES;
+use requests::SET_BOUND;
+use requests::SET_HORIZON;
+use requests::SET_JOB;
+use requests::SET_JOBS;
+use requests::SET_SPEED;
+use requests::SET_SPEEDS;
+use requests::SET_STATE;
+use requests::narrow;
 use stepper::State;
-
-// How many places each buffer has.
-pub const VALUE_PLACES: u64 = 816816;
-
-pub const PLAN_PLACES: u64 = 1000000;
-
-pub const BYTE_PLACES: u64 = 65536;
 
 pub struct Memory {
     pub sheet: Sheet,
@@ -32,19 +26,6 @@ pub struct Memory {
     pub plan: u32,
     pub bytes: u32,
     pub wrong: u64,
-}
-
-// One more, and never past the greatest number of 64 bits.
-pub fn one_more(count: u64) -> u64 {
-    if count < 18446744073709551615 {
-        return count + 1;
-    }
-    count
-}
-
-// The number of 32 bits that a number of at most 32 bits is.
-pub fn narrow(number: u64) -> u32 {
-    (number % 4294967296) as u32
 }
 
 // The sheet with zero at every place.

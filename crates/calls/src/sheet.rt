@@ -1,11 +1,11 @@
 // A sheet and a state as answers show them.
-use crate::memory::one_more;
 use crate::print::print_end;
 use crate::print::print_field;
 use crate::print::print_words;
 use model::Job;
 use model::Sheet;
 use model::Speed;
+use requests::one_more;
 use stepper::State;
 
 // A space and a number of 32 bits.

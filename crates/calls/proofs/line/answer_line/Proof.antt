@@ -15,6 +15,9 @@ slice-aggregate-line c =
 request-of-requires : tie.Need-request-of-requires
 request-of-requires c κs = search needs
 
+lent-of-requires : tie.Need-lent-of-requires
+lent-of-requires c κs = search needs
+
 checked-requires : tie.Need-checked-requires
 checked-requires c κs = search needs
 
@@ -43,6 +46,7 @@ answer-line-spec =
     smaller-requires
     slice-aggregate-line
     request-of-requires
+    lent-of-requires
     checked-requires
     settled-requires
     answer-lent-requires

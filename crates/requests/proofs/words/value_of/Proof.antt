@@ -2,8 +2,8 @@
 use Prim.Native.Nat.{_≤_, _-_}
 use lib.ListN.{length}
 use borrow.Author.Needs.{needs}
-use Rattle.calls.proofs.words.value_of.Statement.{statement}
-use Rattle.calls.proofs.words.value_of.Tie as tie
+use Rattle.requests.proofs.words.value_of.Statement.{statement}
+use Rattle.requests.proofs.words.value_of.Tie as tie
 
 abbrev Inv-loop : tie.InvT-loop
 Inv-loop line word base number₀ at₀ number at = 0 ≤ at

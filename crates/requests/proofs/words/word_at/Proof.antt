@@ -2,8 +2,8 @@
 use Prim.Native.Nat.{_≤_, _-_}
 use lib.ListN.{length}
 use borrow.Author.Needs.{needs}
-use Rattle.calls.proofs.words.word_at.Statement.{statement}
-use Rattle.calls.proofs.words.word_at.Tie as tie
+use Rattle.requests.proofs.words.word_at.Statement.{statement}
+use Rattle.requests.proofs.words.word_at.Tie as tie
 
 abbrev Inv-loop : tie.InvT-loop
 Inv-loop line from word₀ at₀ word at = 0 ≤ at

@@ -1,8 +1,8 @@
 -- `row_of` is safe and ends.
 use Prim.Native.Nat.{_≤_, _-_}
 use borrow.Author.Needs.{needs}
-use Rattle.calls.proofs.kinds.row_of.Statement.{statement}
-use Rattle.calls.proofs.kinds.row_of.Tie as tie
+use Rattle.requests.proofs.kinds.row_of.Statement.{statement}
+use Rattle.requests.proofs.kinds.row_of.Tie as tie
 
 abbrev Inv-loop : tie.InvT-loop
 Inv-loop first second rows kind₀ kind = kind ≤ 39

@@ -10,15 +10,14 @@ use crate::kinds::Row;
 use crate::kinds::SHOW_TEXT;
 use crate::kinds::no_row;
 use crate::kinds::row_of;
-use crate::memory::Memory;
-use crate::memory::narrow;
-use crate::memory::one_more;
 use crate::words::DECIMAL;
 use crate::words::HEX;
 use crate::words::LETTERS;
 use crate::words::Number;
 use crate::words::Word;
+use crate::words::narrow;
 use crate::words::no_number;
+use crate::words::one_more;
 use crate::words::value_of;
 use crate::words::word_at;
 
@@ -36,7 +35,8 @@ pub const TOO_MANY: u32 = 4;
 pub const NOT_LENT: u32 = 5;
 
 // The kind of a line, and the place behind the words that say it; how many words were taken, how many numbers are among them, the first
-// eight of these as numbers of 32 bits, the last as it is, and the place behind all; whether to go on; what is wrong, and the greatest number that might have stood there.
+// eight of these as numbers of 32 bits, the last as it is, and the place behind all; whether to go on; what is wrong, and the greatest
+// number that might have stood there.
 pub struct Request {
     pub kind: usize,
     pub start: usize,
@@ -210,18 +210,7 @@ pub fn request_of(line: &[u8]) -> Request {
     request
 }
 
-// How many places of the buffer are lent that `put`, `show` or `sum` reaches.
-fn lent_of(memory: Memory, kind: usize) -> u32 {
-    if kind < PUT_PLAN {
-        return memory.values;
-    }
-    if kind < PUT_BYTES {
-        return memory.plan;
-    }
-    memory.bytes
-}
-
-// How many places they reach.
+// How many places `put`, `show` or `sum` reaches.
 fn reach(request: Request, numbers: [u32; 8]) -> u32 {
     if request.kind != PUT_VALUES && request.kind != PUT_PLAN && request.kind != PUT_BYTES {
         return numbers[1];
@@ -232,8 +221,8 @@ fn reach(request: Request, numbers: [u32; 8]) -> u32 {
     narrow(request.count - 1)
 }
 
-// What is looked at last: whether the line fits its room, and whether the places that it reaches are lent.
-pub fn checked(request: Request, fits: bool, memory: Memory) -> Request {
+// What is looked at last: whether the line fits its room, and whether the places that it reaches are among the lent ones of its buffer.
+pub fn checked(request: Request, fits: bool, lent: u32) -> Request {
     if !fits {
         return refused(request, TOO_LONG, 0);
     }
@@ -241,7 +230,6 @@ pub fn checked(request: Request, fits: bool, memory: Memory) -> Request {
         return request;
     }
     let numbers = request.numbers;
-    let lent = lent_of(memory, request.kind);
     let from = numbers[0];
     if from <= lent && reach(request, numbers) <= lent - from {
         return request;

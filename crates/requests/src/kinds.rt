@@ -1,7 +1,4 @@
 // The kinds of lines: the words that a line begins with, and what must stand behind them.
-use crate::memory::BYTE_PLACES;
-use crate::memory::PLAN_PLACES;
-use crate::memory::VALUE_PLACES;
 
 // The words, each as a number: its letters' codes are digits of base 256.
 const READ: u64 = 0x72656164;
@@ -58,6 +55,13 @@ const SHEET: u64 = 0x7368656574;
 const MOST: u64 = 4294967295;
 
 const WIDE: u64 = 18446744073709551615;
+
+// How many places each buffer has.
+pub const VALUE_PLACES: u64 = 816816;
+
+pub const PLAN_PLACES: u64 = 1000000;
+
+pub const BYTE_PLACES: u64 = 65536;
 
 // Where a byte in hex must stand, it is the greatest number.
 pub const HEX_BYTE: u64 = 0;

@@ -1,8 +1,8 @@
 -- `request_of` is safe and ends.
 use Prim.Native.Nat.{_≤_}
 use borrow.Author.Needs.{needs}
-use Rattle.calls.proofs.request.request_of.Statement.{statement}
-use Rattle.calls.proofs.request.request_of.Tie as tie
+use Rattle.requests.proofs.request.request_of.Statement.{statement}
+use Rattle.requests.proofs.request.request_of.Tie as tie
 
 abbrev Inv-loop : tie.InvT-loop
 Inv-loop line row request₀ turns₀ request turns = 0 ≤ turns

@@ -19,6 +19,19 @@ pub struct Number {
     pub value: u64,
 }
 
+// One more, and never past the greatest number of 64 bits.
+pub fn one_more(count: u64) -> u64 {
+    if count < 18446744073709551615 {
+        return count + 1;
+    }
+    count
+}
+
+// The number of 32 bits that a number of at most 32 bits is.
+pub fn narrow(number: u64) -> u32 {
+    (number % 4294967296) as u32
+}
+
 // A word and the letter before this place: a space before the word is left out, and one behind it changes nothing.
 fn with_letter(word: Word, letter: u8, behind: usize) -> Word {
     if letter != 32 {
