@@ -1,11 +1,4 @@
 // One line of a script: what it asks for, and what answers it.
-use crate::ask::show_memory;
-use crate::ask::show_places;
-use crate::ask::sum_places;
-use crate::lent::change_of;
-use crate::lent::changes;
-use crate::lent::put_bytes;
-use crate::lent::put_values;
 use crate::make::least_of;
 use crate::make::look;
 use crate::make::make_plan;
@@ -14,9 +7,13 @@ use crate::make::step;
 use crate::make::write;
 use crate::memory::Memory;
 use crate::memory::memory_left;
-use crate::print::print_end;
-use crate::print::print_field;
-use crate::print::print_words;
+use answers::print_end;
+use answers::print_field;
+use answers::print_words;
+use answers::show_places;
+use answers::show_sheet;
+use answers::show_state;
+use answers::sum_places;
 use requests::BLANK;
 use requests::COMMENT;
 use requests::DECIMAL;
@@ -37,8 +34,12 @@ use requests::Request;
 use requests::TOO_LONG;
 use requests::TOO_MANY;
 use requests::UNKNOWN;
+use requests::change_of;
+use requests::changes;
 use requests::checked;
 use requests::one_more;
+use requests::put_bytes;
+use requests::put_values;
 use requests::request_of;
 ghost use Prim.Native.Nat.{_≤_};
 
@@ -111,7 +112,10 @@ fn ask(
     numbers: [u32; 8],
 ) -> Memory {
     look(memory, plan, kind, numbers[0]);
-    show_memory(memory, kind);
+    let held = memory.state;
+    let queue = held.queue;
+    show_sheet(memory.sheet, kind);
+    show_state(queue, held.slot, held.energy, kind);
     show_places(values, plan, bytes, kind, numbers[0], numbers[1]);
     sum_places(values, plan, bytes, kind, numbers[0], numbers[1]);
     let sheet = read(memory.sheet, plan, bytes, kind);

@@ -1,19 +1,14 @@
 // Reads a script from standard input, a line for a call, and answers each line: docs/CALLS.md is its page. It is thin: what it calls is
 // proved, and it only lends the memory. What it prints is tested and not proved.
-mod ask;
-mod input;
-mod lent;
 mod line;
 mod make;
 mod memory;
-mod print;
-mod sheet;
 
-use input::first_line;
-use input::next_line;
 use libc::STDERR_FILENO;
 use line::answer_line;
 use memory::no_memory;
+use requests::first_line;
+use requests::next_line;
 
 // Answers every line, and says how many were not understood. The loop counts its turns down, from a number that no run uses up.
 fn answer_all(values: &mut [u64], plan: &mut [u8], bytes: &mut [u8], room: &mut [u8]) -> u64 {

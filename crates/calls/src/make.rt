@@ -1,13 +1,13 @@
 // The lines that make a call. Each function looks whether the line is its own, and does nothing where it is not.
 use crate::memory::Memory;
-use crate::print::IN_DECIMAL;
-use crate::print::SILENT;
-use crate::print::print_end;
-use crate::print::print_field;
-use crate::print::print_words;
-use crate::print::walk_bytes;
-use crate::sheet::print_sheet;
-use crate::sheet::print_state;
+use answers::IN_DECIMAL;
+use answers::SILENT;
+use answers::print_end;
+use answers::print_field;
+use answers::print_sheet;
+use answers::print_state;
+use answers::print_words;
+use answers::walk_bytes;
 use model::Sheet;
 use requests::CALL_ADVANCE;
 use requests::CALL_LIST;
@@ -120,9 +120,11 @@ pub fn look(memory: Memory, plan: &[u8], kind: usize, slot: u32) {
 
 // What a start or an advance answered: its state is left.
 fn left(name: &[u8], answer: Stepped) -> State {
+    let state = answer.state;
+    let queue = state.queue;
     print_field(name, answer.number as u64);
-    print_state(answer.state);
-    answer.state
+    print_state(queue, state.slot, state.energy);
+    state
 }
 
 // `start` and `advance SIZE DEADLINE`: the state that is left.

@@ -1,9 +1,14 @@
-// A line of a script as a request: its words, the kind of line that they say by a table of lines (kinds), and the numbers behind them, or the
-// first thing that is wrong (request). Nothing here sees lent memory or makes a call; the program `calls` does.
+// A line of a script as a request: lines of standard input (input), their words (words), the kind of line that these say by a table of lines
+// (kinds), and the numbers behind them, or the first thing that is wrong (request); and what a line puts into a lent buffer (lent). Nothing
+// here makes a call; the program `calls` does.
+mod input;
 mod kinds;
+mod lent;
 mod request;
 mod words;
 
+pub use input::first_line;
+pub use input::next_line;
 pub use kinds::BLANK;
 pub use kinds::CALL_ADVANCE;
 pub use kinds::CALL_LIST;
@@ -47,6 +52,10 @@ pub use kinds::SUM_BYTES;
 pub use kinds::SUM_PLAN;
 pub use kinds::SUM_ROW;
 pub use kinds::SUM_VALUES;
+pub use lent::change_of;
+pub use lent::changes;
+pub use lent::put_bytes;
+pub use lent::put_values;
 pub use request::MISSING;
 pub use request::NO_NUMBER;
 pub use request::NOT_LENT;
@@ -60,5 +69,3 @@ pub use words::DECIMAL;
 pub use words::HEX;
 pub use words::narrow;
 pub use words::one_more;
-pub use words::value_of;
-pub use words::word_at;

@@ -1,8 +1,8 @@
 -- `walk_jobs` is safe and ends.
 use Prim.Native.Nat.{_≤_, _-_}
 use borrow.Author.Needs.{needs}
-use Rattle.calls.proofs.sheet.walk_jobs.Statement.{statement}
-use Rattle.calls.proofs.sheet.walk_jobs.Tie as tie
+use Rattle.answers.proofs.sheet.walk_jobs.Statement.{statement}
+use Rattle.answers.proofs.sheet.walk_jobs.Tie as tie
 
 abbrev Inv-loop : tie.InvT-loop
 Inv-loop count others jobs sum₀ place₀ sum place = place ≤ 32

@@ -6,7 +6,6 @@ use model::Job;
 use model::Sheet;
 use model::Speed;
 use requests::one_more;
-use stepper::State;
 
 // A space and a number of 32 bits.
 fn print_number(number: u32) {
@@ -67,8 +66,7 @@ pub fn print_sheet(sheet: Sheet) {
 }
 
 // A state, to the line's end.
-pub fn print_state(state: State) {
-    let queue = state.queue;
+pub fn print_state(queue: [u32; 6], slot: u32, energy: u32) {
     print_words(b", queue");
     print_number(queue[0]);
     print_number(queue[1]);
@@ -76,7 +74,7 @@ pub fn print_state(state: State) {
     print_number(queue[3]);
     print_number(queue[4]);
     print_number(queue[5]);
-    print_field(b", slot ", state.slot as u64);
-    print_field(b", energy ", state.energy as u64);
+    print_field(b", slot ", slot as u64);
+    print_field(b", energy ", energy as u64);
     print_end();
 }

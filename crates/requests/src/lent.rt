@@ -1,10 +1,10 @@
 // The lines that put something into lent places: `fill`, `put` and `bytes`.
-use requests::DECIMAL;
-use requests::FILL_VALUES;
-use requests::PUT_VALUES;
-use requests::Request;
-use requests::value_of;
-use requests::word_at;
+use crate::kinds::FILL_VALUES;
+use crate::kinds::PUT_VALUES;
+use crate::request::Request;
+use crate::words::DECIMAL;
+use crate::words::value_of;
+use crate::words::word_at;
 
 // What a line of a kind puts: so many numbers at the places from `from` on. The line has them from `start` on; `same` says that it has one,
 // which is put everywhere.

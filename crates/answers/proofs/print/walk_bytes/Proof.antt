@@ -2,8 +2,8 @@
 use Prim.Native.Nat.{_<_, _-_}
 use lib.ListN.{length}
 use borrow.Author.Needs.{needs}
-use Rattle.calls.proofs.print.walk_bytes.Statement.{statement}
-use Rattle.calls.proofs.print.walk_bytes.Tie as tie
+use Rattle.answers.proofs.print.walk_bytes.Statement.{statement}
+use Rattle.answers.proofs.print.walk_bytes.Tie as tie
 
 abbrev Inv-loop : tie.InvT-loop
 Inv-loop bytes from count form sum₀ at₀ left₀ sum at left = sum < 4294967291

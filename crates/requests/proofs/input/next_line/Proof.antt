@@ -2,8 +2,8 @@
 use mathlib.Core.Path.{_≡_}
 use lib.ListN.{length}
 use borrow.Author.Needs.{needs}
-use Rattle.calls.proofs.input.next_line.Statement.{statement}
-use Rattle.calls.proofs.input.next_line.Tie as tie
+use Rattle.requests.proofs.input.next_line.Statement.{statement}
+use Rattle.requests.proofs.input.next_line.Tie as tie
 
 abbrev Inv-loop : tie.InvT-loop
 Inv-loop room₀ input₀ count₀ turns₀ room input count turns = length room ≡ length room₀

@@ -1,5 +1,4 @@
 // The lines that ask what stands in memory: `show` and `sum`.
-use crate::memory::Memory;
 use crate::print::AS_TEXT;
 use crate::print::IN_DECIMAL;
 use crate::print::IN_HEX;
@@ -13,6 +12,7 @@ use crate::sheet::print_sheet;
 use crate::sheet::print_state;
 use crate::sheet::walk_jobs;
 use crate::sheet::walk_speeds;
+use model::Sheet;
 use requests::SHOW_BYTES;
 use requests::SHOW_JOBS;
 use requests::SHOW_PLAN;
@@ -25,9 +25,8 @@ use requests::SUM_BYTES;
 use requests::SUM_PLAN;
 use requests::SUM_VALUES;
 
-// `show sheet`, `show speeds`, `show jobs` and `show state`.
-pub fn show_memory(memory: Memory, kind: usize) {
-    let sheet = memory.sheet;
+// `show sheet`, `show speeds` and `show jobs`.
+pub fn show_sheet(sheet: Sheet, kind: usize) {
     if kind == SHOW_SHEET {
         print_sheet(sheet);
         return;
@@ -44,11 +43,14 @@ pub fn show_memory(memory: Memory, kind: usize) {
         print_words(b"jobs");
         walk_jobs(jobs, 32, 0);
         print_end();
-        return;
     }
+}
+
+// `show state`.
+pub fn show_state(queue: [u32; 6], slot: u32, energy: u32, kind: usize) {
     if kind == SHOW_STATE {
         print_words(b"state");
-        print_state(memory.state);
+        print_state(queue, slot, energy);
     }
 }
 
