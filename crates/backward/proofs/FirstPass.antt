@@ -11,7 +11,7 @@ use Rattle.model.specs.Counted.{Counted, M}
 use Rattle.model.specs.Plan.{queueAt}
 use Rattle.model.specs.Queue.{Queue, bearable}
 use Rattle.model.specs.Refusal.{valueLimit}
-use Rattle.model.proofs.Recursion as recursion
+use Rattle.laws.proofs.Recursion as recursion
 use Rattle.model.proofs.Refusal.{Accepted, accepted, fields-right, N-is}
 use Rattle.value.specs.Fills.{Fills}
 use Rattle.value.specs.Width.{Width, readAt}

@@ -10,7 +10,7 @@ use Rattle.model.specs.Counted.{Counted, energyAt, speedAt, G, W}
 use Rattle.model.specs.Queue.{Queue}
 use Rattle.model.specs.Refusal.{valueLimit}
 use Rattle.model.proofs.Counted.{energy-of-upto, energy-of-place, on-sheet-at}
-use Rattle.model.proofs.Recursion.{value-most}
+use Rattle.laws.proofs.Recursion.{value-most}
 use Rattle.model.proofs.Refusal.{Accepted, G-covers, W-low, power-fits}
 use Rattle.value.specs.Width.{Width}
 use Rattle.ahead.proofs.AnyRow.{sums-upto}

@@ -15,7 +15,7 @@ use Rattle.model.specs.Queue.{Queue, total, run}
 use Rattle.model.specs.Refusal.{valueLimit, N}
 use Rattle.model.proofs.Counted.{energy-of-place}
 use Rattle.model.proofs.Queues.{listed-bearable}
-use Rattle.model.proofs.Recursion.{choice-all, best-speed, priced-speed}
+use Rattle.laws.proofs.Recursion.{choice-all, best-speed, priced-speed}
 use Rattle.model.proofs.Refusal.{Accepted, accepted, fields-right, N-is}
 use Rattle.queues.specs.Blocks.{queueWith}
 use Rattle.value.specs.Width.{Width}

@@ -7,8 +7,8 @@ use mathlib.Core.Logic.{⊎-elim}
 use native.Mathlib.Nat.{zero-lt-suc, eq-zero-or-pos}
 use native.Mathlib.Omega.{arith}
 use lib.ListN.{length, set, length-append}
-use Rattle.model.proofs.Codes.{rest-shorter}
-use Rattle.model.proofs.Listing.{digits-last, digits-more}
+use Rattle.laws.proofs.Codes.{rest-shorter}
+use Rattle.laws.proofs.Listing.{digits-last, digits-more}
 use Rattle.model.specs.Listing.{digit, digitsIn}
 use Rattle.buffers.specs.Laid.{Laid}
 use Rattle.buffers.proofs.Laid.{laid-one, laid-then, room-then}

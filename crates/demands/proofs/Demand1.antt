@@ -24,12 +24,12 @@ use Rattle.model.specs.Stepper as model-stepper
 use Rattle.model.specs.Stepper.{queueOf, planByte, startLines, speedLines, isEntry, moved, advanceLines, energyLimit, zeroState}
 use Rattle.model.specs.Tests.{line, _⨾_}
 use Rattle.model.specs.declared.Sheet.{Sheet}
-use Rattle.model.proofs.Listing.{list-number}
-use Rattle.model.proofs.Rooms.{row-none, row-past, row-there, row-accepted}
-use Rattle.model.proofs.RoundTrip.{write-number}
-use Rattle.model.proofs.Stepper.{start-number, speed-number, advance-number, speed-accepted, byte-on-sheet, moved-by}
-use Rattle.model.proofs.Stepping.{energy-small}
-use Rattle.model.proofs.Written.{wrote-refused}
+use Rattle.laws.proofs.Listing.{list-number}
+use Rattle.laws.proofs.Rooms.{row-none, row-past, row-there, row-accepted}
+use Rattle.laws.proofs.RoundTrip.{write-number}
+use Rattle.laws.proofs.Stepper.{start-number, speed-number, advance-number, speed-accepted, byte-on-sheet, moved-by}
+use Rattle.laws.proofs.Stepping.{energy-small}
+use Rattle.laws.proofs.Written.{wrote-refused}
 use Rattle.reader.specs.declared.ReadSheet.{ReadSheet}
 use Rattle.writer.specs.declared.Written.{Written}
 use Rattle.listing.specs.declared.call.Listed.{Listed}

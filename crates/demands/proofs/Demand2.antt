@@ -19,7 +19,7 @@ use Rattle.model.specs.Queue.{Queue, bearable, numberOf}
 use Rattle.model.specs.Refusal.{N, sheetRefusal}
 use Rattle.model.specs.declared.Sheet.{Sheet}
 use Rattle.model.proofs.Queues.{number-below, number-place}
-use Rattle.model.proofs.Rooms.{plan-fits}
+use Rattle.laws.proofs.Rooms.{plan-fits}
 use Rattle.planner.specs.declared.calls.PlanAnswer.{PlanAnswer}
 use Rattle.demands.specs.Calls.{Plans, answered}
 use Rattle.demands.proofs.Determined.{plan-is}

@@ -11,7 +11,7 @@ use Rattle.model.specs.Plan.{IsValueAt, valueIn, placeOfQueue, planLines, planR
 use Rattle.model.specs.Queue.{Queue, positions}
 use Rattle.model.specs.Stepper.{stateRight}
 use Rattle.model.specs.declared.Sheet.{Sheet}
-use Rattle.model.proofs.Rooms.{plan-accepted}
+use Rattle.laws.proofs.Rooms.{plan-accepted}
 use Rattle.planner.specs.declared.calls.PlanAnswer.{PlanAnswer}
 use Rattle.stepper.specs.Calls.{stateOf}
 use Rattle.stepper.specs.declared.state.State.{State}

@@ -19,8 +19,8 @@ use Rattle.model.specs.Stepper.{planByte}
 use Rattle.model.specs.declared.Sheet.{Sheet}
 use Rattle.model.proofs.Queues.{length-totals}
 use Rattle.model.proofs.Refusal.{Ranged, accepted}
-use Rattle.model.proofs.Rooms.{plan-accepted}
-use Rattle.model.proofs.Stepper.{speed-by, speed-number, speed-accepted, byte-enough}
+use Rattle.laws.proofs.Rooms.{plan-accepted}
+use Rattle.laws.proofs.Stepper.{speed-by, speed-number, speed-accepted, byte-enough}
 use Rattle.planner.specs.declared.calls.PlanAnswer.{PlanAnswer}
 use Rattle.stepper.specs.Calls.{stateOf}
 use Rattle.stepper.specs.declared.state.State.{State}

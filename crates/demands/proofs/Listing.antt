@@ -18,10 +18,10 @@ use Rattle.model.specs.Plan as model-plan
 use Rattle.model.specs.Queue.{emptyQueue}
 use Rattle.model.specs.Refusal.{N, sheetRefusal}
 use Rattle.model.specs.declared.Sheet.{Sheet}
-use Rattle.model.proofs.Listing.{list-number, list-fits}
-use Rattle.model.proofs.Recursion.{value-most}
+use Rattle.laws.proofs.Listing.{list-number, list-fits}
+use Rattle.laws.proofs.Recursion.{value-most}
 use Rattle.model.proofs.Refusal.{accepted}
-use Rattle.model.proofs.Rooms.{plan-accepted, row-fits}
+use Rattle.laws.proofs.Rooms.{plan-accepted, row-fits}
 use Rattle.listing.proofs.Within.{listing-fits, listing-upto}
 use Rattle.listing.specs.declared.call.Listed.{Listed}
 use Rattle.planner.specs.declared.calls.PlanAnswer.{PlanAnswer}

@@ -17,9 +17,9 @@ use Rattle.model.specs.Stepper as model
 use Rattle.model.specs.declared.Sheet.{Sheet}
 use Rattle.model.proofs.Queues.{held-bearable, length-in}
 use Rattle.model.proofs.Refusal.{accepted}
-use Rattle.model.proofs.Rooms.{plan-accepted}
-use Rattle.model.proofs.Stepper.{state-right, byte-at}
-use Rattle.model.proofs.Stepping.{no-way-16}
+use Rattle.laws.proofs.Rooms.{plan-accepted}
+use Rattle.laws.proofs.Stepper.{state-right, byte-at}
+use Rattle.laws.proofs.Stepping.{no-way-16}
 use Rattle.planner.specs.declared.calls.PlanAnswer.{PlanAnswer}
 use Rattle.stepper.specs.Calls.{stateOf}
 use Rattle.stepper.specs.declared.state.State.{State}

@@ -17,9 +17,9 @@ use Rattle.model.specs.declared.Sheet.{Sheet}
 use Rattle.model.proofs.Counted.{speed-least, place-of}
 use Rattle.model.proofs.Queues.{length-in, length-slot, length-places, total-places, total-past, total-slot, in-first-places, bearable-upto}
 use Rattle.model.proofs.Refusal.{Ranged, accepted}
-use Rattle.model.proofs.Rooms.{row-accepted}
-use Rattle.model.proofs.Stepper.{state-right, speed-by, speed-number, speed-accepted, byte-on-sheet, byte-enough, moved-by, advance-by, advance-number, advance-accepted}
-use Rattle.model.proofs.Stepping.{energy-small}
+use Rattle.laws.proofs.Rooms.{row-accepted}
+use Rattle.laws.proofs.Stepper.{state-right, speed-by, speed-number, speed-accepted, byte-on-sheet, byte-enough, moved-by, advance-by, advance-number, advance-accepted}
+use Rattle.laws.proofs.Stepping.{energy-small}
 use Rattle.slot.proofs.Places.{total-in}
 use Rattle.stepper.specs.Calls.{stateOf}
 use Rattle.stepper.specs.declared.state.State.{State}

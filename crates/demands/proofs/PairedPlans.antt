@@ -11,7 +11,7 @@ use Rattle.model.specs.Counted.{counted, weightAt, M}
 use Rattle.model.specs.Plan.{processOf, IsValueAt, valueIn, planRefusal, placeOfQueue}
 use Rattle.model.specs.Queue.{Queue, bearable}
 use Rattle.model.specs.declared.Sheet.{Sheet}
-use Rattle.model.proofs.Longer.{bearable-carries}
+use Rattle.laws.proofs.Longer.{bearable-carries}
 use Rattle.planner.specs.declared.calls.PlanAnswer.{PlanAnswer}
 use Rattle.demands.specs.Calls.{Plans}
 use Rattle.pairs.specs.Paired.{Paired, NowhereLonger}

@@ -8,7 +8,7 @@ use lib.ListN.{length, take, replicate, length-append, length-replicate}
 use lib.Seq.{length-take-le}
 use native.Mathlib.Omega.{arith}
 use Rattle.model.proofs.Refusal.{accepted}
-use Rattle.model.proofs.RoundTrip.{counted-well, counted-in-memory, accepted-read, written-accepted, write-number, write-fits, write-short, written-out}
+use Rattle.laws.proofs.RoundTrip.{counted-well, counted-in-memory, accepted-read, written-accepted, write-number, write-fits, write-short, written-out}
 use Rattle.model.specs.Bytes.{AreBytes, sheetBytes, BytesOf}
 use Rattle.model.specs.Counted.{counted, inMemory, zeroSpeed, zeroJob}
 use Rattle.model.specs.Reading.{read}

@@ -12,8 +12,8 @@ use Rattle.model.specs.Counted.{Counted, counted, weightAt}
 use Rattle.model.specs.Plan.{processOf, planRefusal}
 use Rattle.model.specs.Refusal.{sheetRefusal}
 use Rattle.model.specs.declared.Sheet.{Sheet}
-use Rattle.model.proofs.Rooms.{plan-accepted}
-use Rattle.model.proofs.Stepping.{plannedWay, planned-least, spends-planned}
+use Rattle.laws.proofs.Rooms.{plan-accepted}
+use Rattle.laws.proofs.Stepping.{plannedWay, planned-least, spends-planned}
 use Rattle.planner.specs.declared.calls.PlanAnswer.{PlanAnswer}
 use Rattle.stepper.specs.declared.state.State.{State}
 use Rattle.demands.specs.Calls.{Plans}

@@ -20,10 +20,10 @@ use Rattle.model.specs.Stepper as model
 use Rattle.model.specs.declared.Sheet.{Sheet}
 use Rattle.model.proofs.Queues.{held-bearable, length-in, length-slot, in-first-places}
 use Rattle.model.proofs.Refusal.{accepted}
-use Rattle.model.proofs.Rooms.{plan-accepted, row-accepted, row-fits}
-use Rattle.model.proofs.Stepper.{byte-at, moved-by}
-use Rattle.model.proofs.Stepping as stepping
-use Rattle.model.proofs.Stepping.{RightPlan, Going}
+use Rattle.laws.proofs.Rooms.{plan-accepted, row-accepted, row-fits}
+use Rattle.laws.proofs.Stepper.{byte-at, moved-by}
+use Rattle.laws.proofs.Stepping as stepping
+use Rattle.laws.proofs.Stepping.{RightPlan, Going}
 use Rattle.planner.specs.declared.calls.PlanAnswer.{PlanAnswer}
 use Rattle.stepper.specs.Calls.{stateOf}
 use Rattle.stepper.specs.declared.state.State.{State}

@@ -13,7 +13,7 @@ use lib.Dec.{T, leb}
 use lib.ListN.{length}
 use Rattle.model.specs.Counted.{Counted}
 use Rattle.model.specs.Queue.{Queue, total, NeverFalls, NoLonger, bearable, queueCount, numberOf, arrive}
-use Rattle.model.proofs.Longer.{no-longer-by, arrive-never-falls, bearable-carries}
+use Rattle.laws.proofs.Longer.{no-longer-by, arrive-never-falls, bearable-carries}
 use Rattle.model.proofs.Queues.{length-arrive, total-arrive, bearable-at, bearable-all, listed-bearable}
 use Rattle.model.proofs.Tests.{same-test, holds-true}
 use Rattle.queues.specs.Blocks.{queueWith, firstOf, startOf, lowestOf, Alike, Shifted, risen}

@@ -15,7 +15,7 @@ use Rattle.process.specs.Ways.{Way, later, Along, Good, IsLeast}
 use Rattle.model.specs.Counted.{Counted, weightAt, M}
 use Rattle.model.specs.Plan.{nextQueue, processOf, IsValueAt, IsPlanByte}
 use Rattle.model.specs.Queue.{Queue, total, NeverFalls, bearable, run, oneSlot}
-use Rattle.model.proofs.Longer.{no-longer-by, run-never-falls, arrive-never-falls, bearable-carries}
+use Rattle.laws.proofs.Longer.{no-longer-by, run-never-falls, arrive-never-falls, bearable-carries}
 use Rattle.model.proofs.Queues.{length-totals, length-slot}
 use Rattle.model.proofs.Refusal.{Ranged}
 use Rattle.jobs.specs.Given.{EachJob, ByDeadline}

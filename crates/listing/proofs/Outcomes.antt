@@ -4,8 +4,8 @@ use mathlib.Core.Path.{_≡_, refl}
 use mathlib.Core.List.{List}
 use borrow.Author.Tests.{eqb-false}
 use lib.ListN.{length}
-use Rattle.model.proofs.Listing.{list-refused, list-short, list-fits}
-use Rattle.model.proofs.Written.{written-refused}
+use Rattle.laws.proofs.Listing.{list-refused, list-short, list-fits}
+use Rattle.laws.proofs.Written.{written-refused}
 use Rattle.model.specs.Counted.{Counted}
 use Rattle.model.specs.Listing.{scaleOf, listing, listRefusal, list}
 use Rattle.model.specs.Plan.{rowRefusal}

@@ -5,7 +5,7 @@ use mathlib.Core.List.{List}
 use native.Mathlib.Omega.{arith}
 use lib.ListN.{length}
 use Rattle.model.proofs.Refusal.{accepted}
-use Rattle.model.proofs.Rooms.{row-accepted}
+use Rattle.laws.proofs.Rooms.{row-accepted}
 use Rattle.model.specs.Counted.{Counted}
 use Rattle.model.specs.Plan.{rowRefusal}
 use Rattle.model.specs.Refusal.{N}

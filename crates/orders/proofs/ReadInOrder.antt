@@ -15,7 +15,7 @@ use Rattle.model.specs.Refusal.{boundRight, speedCountRight, speedRight, energy
 use Rattle.model.specs.Tests.{check, _then_, line, _⨾_, firstOf, inOrder, listed}
 use Rattle.model.specs.declared.Job.{Job}
 use Rattle.model.specs.declared.Speed.{Speed}
-use Rattle.model.proofs.Readers.{Positive, number-positive, tested, headed, shift}
+use Rattle.laws.proofs.Readers.{Positive, number-positive, tested, headed, shift}
 use Rattle.model.proofs.Tests.{length-listed, getD-listed, then-then, then-nothing, in-order-front, in-order-same}
 use Rattle.orders.specs.Numbers.{valueOf, nextOf, placeOfNumber, fieldOf, speedIn, jobIn, sheetIn, endOf, endLine, stands, isLast, whole, shortest, reading, readLines}
 

@@ -15,7 +15,7 @@ use Rattle.model.specs.Plan.{processOf, nextQueue, IsValueAt}
 use Rattle.model.proofs.Counted.{on-sheet, speed-upto, speed-least}
 use Rattle.model.proofs.Refusal.{accepted}
 use Rattle.model.proofs.Queues.{length-run, length-arrive}
-use Rattle.model.proofs.Longer.{run-never-falls, run-no-longer, arrive-never-falls, arrive-no-longer, bearable-carries}
+use Rattle.laws.proofs.Longer.{run-never-falls, run-no-longer, arrive-never-falls, arrive-no-longer, bearable-carries}
 use Rattle.pairs.specs.Paired.{Paired, NowhereLonger}
 
 module _ {first second : Counted} {there back : ℕ → ℕ} (p : Paired first second there back) where

@@ -7,7 +7,7 @@ use native.Mathlib.Nat.{suc-mul, mul-le-mul-right}
 use native.Mathlib.Omega.{arith}
 use lib.ListN.{length}
 use Rattle.model.proofs.Refusal.{accepted, N-low}
-use Rattle.model.proofs.Rooms.{row-accepted}
+use Rattle.laws.proofs.Rooms.{row-accepted}
 use Rattle.model.specs.Counted.{Counted}
 use Rattle.model.specs.Plan.{PlanAnswer, LeavesBy, Filled, valueIn, placeAt, valuesNeeded, planRefusal, rowRefusal}
 use Rattle.model.specs.Refusal.{N, sheetRefusal}

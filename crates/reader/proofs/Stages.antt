@@ -11,9 +11,9 @@ use Rattle.model.specs.Refusal.{boundRight, horizonRight, fieldsRefusal, limits
 use Rattle.model.specs.declared.Job.{Job}
 use Rattle.model.specs.declared.Sheet.{Sheet}
 use Rattle.model.specs.declared.Speed.{Speed}
-use Rattle.model.proofs.Readers.{bind-value, bind-refused, after-value, after-refused, test-passes, test-fails, value-same, refused-no-value}
+use Rattle.laws.proofs.Readers.{bind-value, bind-refused, after-value, after-refused, test-passes, test-fails, value-same, refused-no-value}
 use Rattle.model.proofs.Refusal.{ranged}
-use Rattle.model.proofs.RoundTrip.{counted-in-memory}
+use Rattle.laws.proofs.RoundTrip.{counted-in-memory}
 use Rattle.fields.specs.Answers.{refusalNumber}
 use Rattle.tables.specs.Answers.{tableAnswer, inMemoryAs, speedPlaces, jobPlaces}
 use Rattle.reader.specs.Answers.{sheetGiven}

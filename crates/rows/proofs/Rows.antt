@@ -9,7 +9,7 @@ use lib.Dec.{T}
 use lib.ListN.{length}
 use Rattle.process.specs.Recursion.{only}
 use Rattle.model.specs.Queue.{Queue, total, NeverFalls, queueIn, bearable, queueCount, numberOf, run}
-use Rattle.model.proofs.Longer.{run-never-falls}
+use Rattle.laws.proofs.Longer.{run-never-falls}
 use Rattle.model.proofs.Queues.{number-below, number-place, length-in, length-run}
 use Rattle.queues.specs.Blocks.{queueWith}
 use Rattle.slot.specs.Slot.{kept}

@@ -6,7 +6,7 @@ use native.Mathlib.Omega.{arith}
 use lib.ListN.{getD}
 use Rattle.model.specs.Counted.{counted, zeroSpeed}
 use Rattle.model.specs.Refusal.{speedRefusalAt}
-use Rattle.model.proofs.Readers.{speedNumber}
+use Rattle.laws.proofs.Readers.{speedNumber}
 use Rattle.model.specs.declared.Sheet.{Sheet}
 use Rattle.model.specs.declared.Speed.{Speed}
 use Rattle.limits.proofs.Places.{speed-counts}

@@ -12,7 +12,7 @@ use borrow.Author.Tests.{le-leb, lt-leb}
 use lib.Dec.{T, leb, leb→le, le→leb}
 use lib.ListN.{length}
 use Rattle.model.specs.Queue.{Queue, total, NeverFalls, NoLonger, queueIn, placesOf, bearable, numberOf, run}
-use Rattle.model.proofs.Longer.{no-longer-by, run-never-falls, bearable-carries}
+use Rattle.laws.proofs.Longer.{no-longer-by, run-never-falls, bearable-carries}
 use Rattle.model.proofs.Queues.{length-run, total-run, length-in, bearable-at}
 use Rattle.model.proofs.Tests.{and-left, and-right, and-both, same-test, holds-true}
 use Rattle.queues.specs.Blocks.{Alike}

@@ -6,7 +6,7 @@ use mathlib.Core.List.{List}
 use native.Mathlib.Omega.{arith}
 use borrow.Author.Tests.{le-leb, lt-leb, ne-eqb}
 use lib.Dec.{leb, eqb}
-use Rattle.model.proofs.Stepper.{speed-by, moved-by, advance-by, advance-refusal-next}
+use Rattle.laws.proofs.Stepper.{speed-by, moved-by, advance-by, advance-refusal-next}
 use Rattle.model.proofs.Tests.{check-true, check-false, then-passes, then-fails}
 use Rattle.model.specs.Counted.{Counted, energyOf, M}
 use Rattle.model.specs.Queue.{queueIn, placesOf, bearable, oneSlot}

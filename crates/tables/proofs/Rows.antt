@@ -7,7 +7,7 @@ use native.Mathlib.Nat.{le-refl, not-suc-le-zero, le-of-suc-le-suc, sub-zero, su
 use native.Mathlib.Numerals.{add-one}
 use native.Mathlib.Omega.{arith}
 use lib.ListN.{length, take, set, replicate, length-append}
-use Rattle.model.proofs.Readers.{headed, bind-value, bind-refused}
+use Rattle.laws.proofs.Readers.{headed, bind-value, bind-refused}
 use Rattle.model.specs.Reading.{Answer, value, refused, Reader, onward, _>>=_, done, readSpeed, readSpeeds, readJob, readJobs}
 use Rattle.model.specs.Tests.{padded}
 use Rattle.tables.specs.Answers.{tableAnswer, inMemoryAs}

@@ -4,7 +4,7 @@ use Prim.Native.Nat.{ℕ, _<_}
 use mathlib.Core.Path.{_≡_, refl, sym, ap, _∙_}
 use mathlib.Core.Bool.{Bool, true, false, not}
 use mathlib.Core.List.{List}
-use Rattle.model.proofs.Readers.{Positive, tested, bind-value, bind-refused, after-value, after-refused, test-passes, test-fails}
+use Rattle.laws.proofs.Readers.{Positive, tested, bind-value, bind-refused, after-value, after-refused, test-passes, test-fails}
 use Rattle.model.specs.Reading.{Answer, refused, Reader, _>>_, done, test, field, readSpeed, readSpeeds, readSpeedTable, readJob, readJobs, readJobTable}
 use Rattle.model.specs.Refusal.{speedCountRight, speedRight, energyRight, jobCountRight, weightRight, sizeRight, deadlineRight}
 use Rattle.model.specs.declared.Job.{Job}

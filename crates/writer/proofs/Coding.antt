@@ -6,7 +6,7 @@ use native.Mathlib.Nat.{not-suc-le-zero}
 use native.Mathlib.Omega.{arith}
 use borrow.Author.Tests.{lt-ltb, le-ltb}
 use lib.ListN.{length, set, length-set}
-use Rattle.model.proofs.Codes.{rest-shorter}
+use Rattle.laws.proofs.Codes.{rest-shorter}
 use Rattle.model.specs.Bytes.{codeIn}
 use Rattle.buffers.specs.Laid.{Laid}
 use Rattle.buffers.proofs.Laid.{laid-one, laid-then}

@@ -7,7 +7,7 @@ use native.Mathlib.Omega.{arith}
 use borrow.Author.Tests.{lt-ltb, le-ltb}
 use lib.Dec.{ltb}
 use lib.ListN.{length, getD, length-append}
-use Rattle.model.proofs.Codes.{length-code}
+use Rattle.laws.proofs.Codes.{length-code}
 use Rattle.model.proofs.Refusal.{ranged}
 use Rattle.model.proofs.Tests.{turn-times}
 use Rattle.model.specs.Bytes.{code, speedCode, jobCode, speedBytes, jobBytes, sheetBytes}

@@ -4,9 +4,9 @@ use mathlib.Core.Path.{_≡_, refl}
 use mathlib.Core.List.{List}
 use borrow.Author.Tests.{eqb-false}
 use lib.ListN.{length}
-use Rattle.model.proofs.RoundTrip.{write-fits, write-short}
+use Rattle.laws.proofs.RoundTrip.{write-fits, write-short}
 use Rattle.model.proofs.Tests.{then-stops}
-use Rattle.model.proofs.Written.{written-refused}
+use Rattle.laws.proofs.Written.{written-refused}
 use Rattle.model.specs.Bytes.{sheetBytes, writeRefusal, writeLines, write}
 use Rattle.model.specs.Counted.{Counted}
 use Rattle.model.specs.Refusal.{sheetRefusal}

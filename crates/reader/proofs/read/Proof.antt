@@ -5,7 +5,7 @@ use mathlib.Core.Bool.{true}
 use mathlib.Core.List.{List}
 use borrow.Author.Needs.{needs}
 use denote.Ref.{now}
-use Rattle.model.proofs.Readers.{fields-read}
+use Rattle.laws.proofs.Readers.{fields-read}
 use Rattle.model.specs.Reading.{readSpeedTable, readJobTable, readCounted}
 use Rattle.model.specs.Refusal.{boundRight, horizonRight, fieldsRefusal, limitsRefusal, N}
 use Rattle.model.specs.Counted.{Counted, sheetOf, counted, inMemory}

@@ -4,7 +4,7 @@ use Prim.Native.Nat.{_-_, _≤_}
 use mathlib.Core.Path.{refl}
 use native.Mathlib.Omega.{arith}
 use borrow.Author.Needs.{needs}
-use Rattle.model.proofs.Readers.{read-job-positive}
+use Rattle.laws.proofs.Readers.{read-job-positive}
 use Rattle.model.specs.Counted.{zeroJob}
 use Rattle.model.specs.Reading.{readJobs}
 use Rattle.tables.specs.Answers.{jobAnswer}

@@ -4,7 +4,7 @@ use Prim.Native.Nat.{_-_, _≤_}
 use mathlib.Core.Path.{refl}
 use native.Mathlib.Omega.{arith}
 use borrow.Author.Needs.{needs}
-use Rattle.model.proofs.Readers.{read-speed-positive}
+use Rattle.laws.proofs.Readers.{read-speed-positive}
 use Rattle.model.specs.Counted.{zeroSpeed}
 use Rattle.model.specs.Reading.{readSpeeds}
 use Rattle.tables.specs.Answers.{speedAnswer}

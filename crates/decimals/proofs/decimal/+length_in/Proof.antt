@@ -5,7 +5,7 @@ use mathlib.Core.Path.{sym}
 use native.Mathlib.Omega.{arith}
 use borrow.Fn.Kinds.{In}
 use borrow.Fn.PlainCycle.{Measures, is, falls, and}
-use Rattle.model.proofs.Codes.{rest-shorter}
+use Rattle.laws.proofs.Codes.{rest-shorter}
 use Rattle.decimals.proofs.Digits.{single-length, several-length}
 use Rattle.decimals.proofs.decimal.length_in.Reads as length-in
 use Rattle.decimals.proofs.decimal.length_in.Kinds as length-in-kinds

@@ -4,7 +4,7 @@ use native.Mathlib.Omega.{arith}
 use borrow.Author.Needs.{needs}
 use lib.ListN.{length}
 use Rattle.model.proofs.Refusal.{fields-right}
-use Rattle.model.proofs.Rooms.{row-accepted}
+use Rattle.laws.proofs.Rooms.{row-accepted}
 use Rattle.model.specs.Counted.{Counted, counted}
 use Rattle.model.specs.Plan.{rowRefusal}
 use Rattle.model.specs.Refusal.{sheetRefusal}

@@ -6,8 +6,8 @@ use borrow.Author.Needs.{needs}
 use lib.ListN.{length, getD}
 use Rattle.model.proofs.Queues.{held-bearable, number-below, length-in}
 use Rattle.model.proofs.Refusal.{fields-right, accepted, N-is}
-use Rattle.model.proofs.Rooms.{row-accepted, place-within}
-use Rattle.model.proofs.Stepper.{byte-at}
+use Rattle.laws.proofs.Rooms.{row-accepted, place-within}
+use Rattle.laws.proofs.Stepper.{byte-at}
 use Rattle.model.specs.Counted.{counted, M}
 use Rattle.model.specs.Plan.{placeAt}
 use Rattle.model.specs.Queue.{numberOf}

@@ -5,7 +5,7 @@ use native.Mathlib.Omega.{arith}
 use borrow.Author.Needs.{needs}
 use lib.ListN.{length}
 use Rattle.model.proofs.Refusal.{accepted}
-use Rattle.model.proofs.Rooms.{plan-accepted}
+use Rattle.laws.proofs.Rooms.{plan-accepted}
 use Rattle.model.specs.Counted.{Counted, counted}
 use Rattle.model.specs.Plan.{planRefusal, valuesNeeded}
 use Rattle.model.specs.Refusal.{sheetRefusal}

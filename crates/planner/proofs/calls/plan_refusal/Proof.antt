@@ -4,7 +4,7 @@ use mathlib.Core.Path.{_≡_, sym, _∙_}
 use native.Mathlib.Omega.{arith}
 use borrow.Author.Needs.{needs}
 use borrow.Author.Tests.{leb-true, leb-false}
-use Rattle.model.proofs.Rooms.{plan-refused, plan-short-values, plan-short-plan, plan-fits}
+use Rattle.laws.proofs.Rooms.{plan-refused, plan-short-values, plan-short-plan, plan-fits}
 use Rattle.model.specs.Counted.{counted}
 use Rattle.model.specs.Refusal.{sheetRefusal}
 use Rattle.ranges.proofs.Answers.{passed-by, failed-by}

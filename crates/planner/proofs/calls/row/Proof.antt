@@ -4,7 +4,7 @@ use mathlib.Core.Path.{_≡_, sym, _∙_}
 use native.Mathlib.Omega.{arith}
 use borrow.Author.Needs.{needs}
 use lib.ListN.{length}
-use Rattle.model.proofs.Rooms.{row-accepted, row-none, row-past, row-part}
+use Rattle.laws.proofs.Rooms.{row-accepted, row-none, row-past, row-part}
 use Rattle.model.specs.Counted.{counted}
 use Rattle.model.specs.Plan.{rowRefusal}
 use Rattle.backward.proofs.Backward.{sizes-small}

@@ -4,7 +4,7 @@ use mathlib.Core.Path.{_≡_, sym, ap, _∙_}
 use native.Mathlib.Omega.{arith}
 use borrow.Author.Needs.{needs}
 use Rattle.model.proofs.Refusal.{fields-right, accepted}
-use Rattle.model.proofs.Rooms.{row-refused, row-short, row-fits}
+use Rattle.laws.proofs.Rooms.{row-refused, row-short, row-fits}
 use Rattle.model.specs.Counted.{counted}
 use Rattle.model.specs.Plan.{planNeeded}
 use Rattle.model.specs.Refusal.{sheetRefusal}

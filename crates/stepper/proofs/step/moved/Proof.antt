@@ -5,7 +5,7 @@ use native.Mathlib.Numerals.{add-one}
 use native.Mathlib.Omega.{arith}
 use borrow.Author.Needs.{needs}
 use Rattle.model.proofs.Refusal.{ranged, M-high}
-use Rattle.model.proofs.Stepper.{state-right, moved-by}
+use Rattle.laws.proofs.Stepper.{state-right, moved-by}
 use Rattle.model.specs.Counted.{counted, M}
 use Rattle.model.specs.Queue.{bearable}
 use Rattle.model.specs.Stepper.{queueOf, moved}

@@ -6,7 +6,7 @@ use borrow.Author.Needs.{needs}
 use borrow.Author.Tests.{lt-ltb, le-ltb}
 use lib.Dec.{leb}
 use Rattle.model.proofs.Refusal.{ranged}
-use Rattle.model.proofs.Stepper.{wrong-byte, first-decides}
+use Rattle.laws.proofs.Stepper.{wrong-byte, first-decides}
 use Rattle.model.specs.Counted.{counted, placeOfSpeed}
 use Rattle.slot.proofs.Places.{total-in}
 use Rattle.lookups.proofs.Looking.{on-sheet-place}

@@ -6,7 +6,7 @@ use native.Mathlib.Omega.{arith}
 use borrow.Author.Needs.{needs}
 use lib.Dec.{leb}
 use Rattle.model.proofs.Refusal.{ranged, greatest-energy-high}
-use Rattle.model.proofs.Stepper.{wrong-queue, wrong-slot, energy-decides}
+use Rattle.laws.proofs.Stepper.{wrong-queue, wrong-slot, energy-decides}
 use Rattle.model.specs.Counted.{counted}
 use Rattle.ranges.proofs.Answers.{passed-by, failed-by}
 use Rattle.stepper.proofs.tests.state_right.Statement.{statement}

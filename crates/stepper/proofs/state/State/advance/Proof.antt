@@ -5,8 +5,8 @@ use mathlib.Core.Path.{_≡_, refl, sym, ap, _∙_, subst}
 use borrow.Author.Needs.{needs}
 use lib.Dec.{T}
 use Rattle.model.proofs.Refusal.{fields-right}
-use Rattle.model.proofs.Rooms.{row-accepted}
-use Rattle.model.proofs.Stepper.{speed-by, speed-accepted, byte-on-sheet, advance-by, advance-refusal-speed, advance-refusal-15}
+use Rattle.laws.proofs.Rooms.{row-accepted}
+use Rattle.laws.proofs.Stepper.{speed-by, speed-accepted, byte-on-sheet, advance-by, advance-refusal-speed, advance-refusal-15}
 use Rattle.model.specs.Counted.{counted, onSheet}
 use Rattle.model.specs.Refusal.{fieldsRefusal}
 use Rattle.model.specs.Stepper.{Stepped, Told, planByte, speedRefusal, isEntry, moved}

@@ -7,8 +7,8 @@ use borrow.Author.Needs.{needs}
 use lib.Dec.{T}
 use lib.ListN.{length}
 use Rattle.model.proofs.Refusal.{fields-right}
-use Rattle.model.proofs.Rooms.{row-accepted}
-use Rattle.model.proofs.Stepper.{state-right, speed-refusal-row, speed-refusal-13, speed-refusal-14, speed-refusal-16-or-0, byte-at}
+use Rattle.laws.proofs.Rooms.{row-accepted}
+use Rattle.laws.proofs.Stepper.{state-right, speed-refusal-row, speed-refusal-13, speed-refusal-14, speed-refusal-16-or-0, byte-at}
 use Rattle.model.proofs.Tests.{check-true, check-false}
 use Rattle.model.specs.Counted.{counted}
 use Rattle.model.specs.Plan.{rowRefusal}

@@ -2,7 +2,7 @@
 use mathlib.Core.Path.{_≡_, refl, sym, _∙_}
 use borrow.Author.Needs.{needs}
 use Rattle.model.proofs.Refusal.{fields-right}
-use Rattle.model.proofs.Stepper.{start-by, start-refusal-sheet, start-refusal-13, start-refusal-0}
+use Rattle.laws.proofs.Stepper.{start-by, start-refusal-sheet, start-refusal-13, start-refusal-0}
 use Rattle.model.specs.Counted.{counted}
 use Rattle.model.specs.Refusal.{sheetRefusal}
 use Rattle.model.specs.Stepper.{zeroState}

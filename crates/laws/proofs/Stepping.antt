@@ -15,19 +15,19 @@ use Rattle.process.specs.Recursion.{ruled}
 use Rattle.process.specs.Sums.{sum}
 use Rattle.process.specs.Ways.{Way, spent, IsLeast, IsFirst}
 use Rattle.process.proofs.Value.{first-step, plan-least, value-some-is, first-plan, SlotByRule, spent-by-rule}
 use Rattle.model.specs.Counted.{Counted, speedAt, sizeAt, deadlineAt, weightAt, onSheet, energyOf, greatestEnergy, M}
 use Rattle.model.specs.Plan.{nextQueue, processOf, HasValue, noSpeed, placeOfQueue, rowRefusal}
 use Rattle.model.specs.Queue.{Queue, total, positions, queueIn, placesOf, bearable, unusedZero, bearableIn, oneSlot}
 use Rattle.model.specs.Refusal.{sheetRefusal}
 use Rattle.model.specs.Stepper.{State, queueOf, queueRight, stateRight, start, planByte, byteRight, speedRefusal, speed, isEntry, moved, energyLimit, nextRefusal, advanceRefusal, advance}
 use Rattle.model.specs.Tests.{check}
 use Rattle.model.proofs.Admissible.{good-bearable}
 use Rattle.model.proofs.Counted.{on-sheet, place-of, energy-of-upto}
 use Rattle.model.proofs.Queues.{length-slot, held-bearable, length-in, length-places, in-first-places, places-hold}
 use Rattle.model.proofs.Refusal.{Ranged, accepted, speeds-rise, greatest-energy-high}
-use Rattle.model.proofs.Rooms.{row-accepted}
-use Rattle.model.proofs.Stepper.{state-right, start-by, start-refusal-0, energy-decides, speed-by, speed-refusal-14, speed-refusal-16-or-0, wrong-byte, byte-at, first-decides, entry-at, moved-by, advance-by, advance-refusal-speed, advance-refusal-next}
+use Rattle.laws.proofs.Rooms.{row-accepted}
+use Rattle.laws.proofs.Stepper.{state-right, start-by, start-refusal-0, energy-decides, speed-by, speed-refusal-14, speed-refusal-16-or-0, wrong-byte, byte-at, first-decides, entry-at, moved-by, advance-by, advance-refusal-speed, advance-refusal-next}
 use Rattle.model.proofs.Tests.{holds-true, fails-false, and-both, check-passes, check-true, check-false, then-both}
 
 -- plan bytes that are right: at every slot before the horizon, for every bearable queue that has a value, the byte begins a least way
 abbrev pub RightPlan : Counted → List ℕ → Type 0

@@ -9,14 +9,14 @@ use native.Mathlib.Omega.{arith}
 use borrow.Author.Tests.{lt-ltb, le-ltb, ltb-true, ltb-false, lt-leb, le-leb}
 use lib.Dec.{leb, ltb}
 use lib.ListN.{length, getD}
 use Rattle.model.specs.Counted.{Counted}
 use Rattle.model.specs.Listing.{digit, said, digitsIn, decimal, listing, listRefusal, listLines, list}
 use Rattle.model.specs.Plan.{planNeeded, rowRefusal, rowLines}
 use Rattle.model.specs.Refusal.{sheetRefusal}
 use Rattle.model.specs.Tests.{check, _then_}
-use Rattle.model.proofs.Codes.{rest-short}
+use Rattle.laws.proofs.Codes.{rest-short}
 use Rattle.model.proofs.Tests.{check-true, check-false}
-use Rattle.model.proofs.Written.{written-number}
+use Rattle.laws.proofs.Written.{written-number}
 
 -- one digit more
 said-more : (so : ℕ) (l : List ℕ) (c : ℕ) → said so (l ++ c ∷ []) ≡ 10 * said so l + (c - digit 0)

@@ -9,17 +9,17 @@ use borrow.Author.Tests.{le-leb, lt-leb, leb-true}
 use lib.Dec.{leb}
 use lib.ListN.{length, take, drop, replicate, length-append}
 use lib.Seq.{take-all, take-take, take-at, length-take-le}
 use Rattle.model.specs.Bytes.{AreBytes, code, speedBytes, jobBytes, sheetBytes, BytesOf, writeRefusal, writeLines, write}
 use Rattle.model.specs.Counted.{Counted, WellCounted, sheetOf, counted, inMemory, zeroSpeed, zeroJob}
 use Rattle.model.specs.Reading.{Answer, value, refused, readSpeedTable, readJobTable, judged, readCounted, readAnswer, read}
 use Rattle.model.specs.Refusal.{boundRight, speedCountRight, horizonRight, jobCountRight, speedsRefusal, speedsLines, jobsLines, fieldsRefusal, fieldLines, limitsRefusal, linesGiven, sheetRefusal, sheetLines, N}
 use Rattle.model.specs.Tests.{inTurn, padded}
 use Rattle.model.specs.declared.Sheet.{Sheet}
-use Rattle.model.proofs.Codes.{field-code, field-bytes}
-use Rattle.model.proofs.Readers.{Positive, read-positive, value-same, onward-gave, test-gave, refuse-gave, holds-then, tested-gave, Stand, stand-join, stand-split, tableFields, speedFields, jobFields, speed-entries, job-entries, table-gave, table-value, fields-read}
+use Rattle.laws.proofs.Codes.{field-code, field-bytes}
+use Rattle.laws.proofs.Readers.{Positive, read-positive, value-same, onward-gave, test-gave, refuse-gave, holds-then, tested-gave, Stand, stand-join, stand-split, tableFields, speedFields, jobFields, speed-entries, job-entries, table-gave, table-value, fields-read}
 use Rattle.model.proofs.Refusal.{Ranged, ranged}
 use Rattle.model.proofs.Tests.{then-both, then-left, then-right, then-on, check-true, check-false}
-use Rattle.model.proofs.Written.{written-number}
+use Rattle.laws.proofs.Written.{written-number}
 
 -- the places that count of a sheet in memory, whose counts are in range, are as many as the counts say
 pub counted-well : (s : Sheet) → length (s .speeds) ≡ 9 → length (s .jobs) ≡ 32 → s .«speed_count» ≤ 9 → s .«job_count» ≤ 32 →

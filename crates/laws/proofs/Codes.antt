@@ -10,10 +10,10 @@ use borrow.Author.Tests.{ltb-true, ltb-false, leb-false, eqb-false, le-ltb, lt-l
 use lib.Dec.{leb, ltb, eqb, ltb→lt, lt→ltb}
 use lib.ListN.{length, getD, take, length-append}
 use lib.Seq.{take-suc, append-snoc, getD-append-seam}
 use Rattle.model.specs.Bytes.{AreBytes, codeIn, code}
 use Rattle.model.specs.Reading.{Answer, value, refused, joined, numberIn, field}
-use Rattle.model.proofs.Readers.{refused-no-value}
+use Rattle.laws.proofs.Readers.{refused-no-value}
 use Rattle.model.proofs.Tests.{same-test}
 
 -- a number in groups, of any base: what is left without its last group takes one group less
 pub rest-short : (base n x : ℕ) → 0 < base → x < base ^ suc n → x / base < base ^ n
