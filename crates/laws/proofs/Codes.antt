@@ -1,4 +1,4 @@
--- One number's code (specs/Bytes.antt) and its reading (specs/Reading.antt) undo each other; and how long the code is.
+-- One number's code (the model's Bytes.antt) and its reading (the model's Reading.antt) undo each other; and how long the code is.
 use Prim.Native.Nat.{ℕ, zero, suc, _+_, _*_, _-_, _^_, _%_, _/_, _≤_, _<_}
 use mathlib.Core.Path.{_≡_, refl}
 use mathlib.Core.Bool.{Bool, true, false, cond}

@@ -1,4 +1,4 @@
--- Laws of the listing (specs/Listing.antt). What `decimal` writes is the number: read as digits it says it, and its first digit is 0 only
+-- Laws of the listing (the model's Listing.antt). What `decimal` writes is the number: read as digits it says it, and its first digit is 0 only
 -- where the number is. And what the call's number is.
 use Prim.Native.Nat.{ℕ, zero, suc, _+_, _*_, _-_, _^_, _/_, _%_, _≤_, _<_}
 use mathlib.Core.Path.{_≡_, refl, sym, _∙_}

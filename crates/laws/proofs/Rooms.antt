@@ -1,4 +1,4 @@
--- What the row call and the planner refuse (`rowRefusal` and `planRefusal` of specs/Plan.antt), by the sheet's number and the rooms that are
+-- What the row call and the planner refuse (`rowRefusal` and `planRefusal` of the model's Plan.antt), by the sheet's number and the rooms that are
 -- lent, and which part of a plan a slot's row is.
 use Prim.Native.Nat.{ℕ, _+_, _-_, _≤_, _<_}
 use mathlib.Core.Path.{_≡_, refl, sym, ap, _∙_}

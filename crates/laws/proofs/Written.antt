@@ -1,4 +1,4 @@
--- Laws of what a call that writes bytes answers and leaves (`written`, specs/Bytes.antt).
+-- Laws of what a call that writes bytes answers and leaves (`written`, the model's Bytes.antt).
 use Prim.Native.Nat.{ℕ, zero, suc}
 use mathlib.Core.Path.{_≡_, refl, sym, _∙_}
 use mathlib.Core.List.{List}

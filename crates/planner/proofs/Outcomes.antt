@@ -1,5 +1,5 @@
 -- What the two calls answer and where they look, by the model's refusals: what a refused plan and a filled one leave, and what an accepted
--- sheet says of places and rooms. What the calls refuse is in the model's proofs/Rooms.antt.
+-- sheet says of places and rooms. What the calls refuse is in laws/proofs/Rooms.antt.
 use Prim.Native.Nat.{ℕ, zero, suc, _+_, _*_, _≤_, _<_}
 use mathlib.Core.Path.{_≡_, refl, sym, ap, _∙_, subst}
 use mathlib.Core.List.{List}
