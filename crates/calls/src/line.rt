@@ -1,60 +1,56 @@
 // One line of a script: what it asks for, and what answers it.
-use crate::make::least_of;
-use crate::make::look;
-use crate::make::make_plan;
-use crate::make::read;
-use crate::make::step;
-use crate::make::write;
-use crate::memory::Memory;
-use crate::memory::memory_left;
-use answers::print_end;
-use answers::print_field;
-use answers::print_words;
-use answers::show_places;
-use answers::show_sheet;
-use answers::show_state;
-use answers::sum_places;
-use requests::BLANK;
-use requests::COMMENT;
-use requests::DECIMAL;
-use requests::FILL_BYTES;
-use requests::FILL_PLAN;
-use requests::FILL_VALUES;
-use requests::HEX;
-use requests::HEX_BYTE;
-use requests::MISSING;
-use requests::NO_NUMBER;
-use requests::NOT_LENT;
-use requests::NOTHING;
-use requests::PUT_ALL_BYTES;
-use requests::PUT_BYTES;
-use requests::PUT_PLAN;
-use requests::PUT_VALUES;
-use requests::Request;
-use requests::TOO_LONG;
-use requests::TOO_MANY;
-use requests::UNKNOWN;
-use requests::change_of;
-use requests::changes;
-use requests::checked;
-use requests::one_more;
-use requests::put_bytes;
-use requests::put_values;
-use requests::request_of;
-ghost use Prim.Native.Nat.{_≤_};
+use crate::kinds::BUFFER;
+use crate::kinds::CALL_ADVANCE;
+use crate::kinds::CALL_READ;
+use crate::kinds::COMMENT;
+use crate::kinds::HEX_BYTE;
+use crate::kinds::IN_BYTES;
+use crate::kinds::IN_PLAN;
+use crate::kinds::NOTHING;
+use crate::kinds::PUT_ALL_BYTES;
+use crate::kinds::cell;
+use crate::make::make;
+use crate::memory::BYTES_LENT;
+use crate::memory::PLAN_LENT;
+use crate::memory::VALUES_LENT;
+use crate::memory::WRONG;
+use crate::memory::smaller;
+use crate::print::print_end;
+use crate::print::print_field;
+use crate::print::print_words;
+use crate::put::put;
+use crate::request::MISSING;
+use crate::request::NO_NUMBER;
+use crate::request::NOT_LENT;
+use crate::request::Request;
+use crate::request::TOO_LONG;
+use crate::request::TOO_MANY;
+use crate::request::UNKNOWN;
+use crate::request::checked;
+use crate::request::request_of;
+use crate::show::show;
+use crate::words::one_more;
+
+// The number of the word behind those that were taken.
+fn next_word(words: u64, count: u64) -> u64 {
+    if words == 2 {
+        return one_more(one_more(one_more(count)));
+    }
+    one_more(one_more(count))
+}
 
 // What is wrong with a word.
 fn print_word_problem(request: Request) {
-    print_field(b"word ", one_more(request.words));
-    if request.problem == MISSING {
+    print_field(b"word ", next_word(request.words, request.count));
+    if request.taken == MISSING {
         print_words(b" is missing");
         return;
     }
-    if request.problem == NO_NUMBER && request.most != HEX_BYTE {
+    if request.taken == NO_NUMBER && request.most != HEX_BYTE {
         print_field(b" is not a number from 0 to ", request.most);
         return;
     }
-    if request.problem == TOO_MANY {
+    if request.taken == TOO_MANY {
         print_words(b" is one too many");
         return;
     }
@@ -63,15 +59,15 @@ fn print_word_problem(request: Request) {
 
 // What is wrong with a line.
 fn print_problem(request: Request) {
-    if request.problem == TOO_LONG {
+    if request.taken == TOO_LONG {
         print_words(b"the line is longer than 65536 bytes");
         return;
     }
-    if request.problem == UNKNOWN {
+    if request.taken == UNKNOWN {
         print_words(b"no line begins so");
         return;
     }
-    if request.problem == NOT_LENT {
+    if request.taken == NOT_LENT {
         print_field(b"only ", request.most);
         print_words(b" places are lent");
         return;
@@ -79,166 +75,82 @@ fn print_problem(request: Request) {
     print_word_problem(request);
 }
 
-// Answers a line that needs no buffer, and says what it leaves: one that is not understood is counted.
-fn settled(memory: Memory, line: &[u8], request: Request) -> Memory {
+// Answers a line that memory has nothing to do with, and counts it where it is not understood.
+fn settle(line: &[u8], request: Request, wrong: u64) -> u64 {
     if request.kind == NOTHING {
         print_words(b"not understood: ");
         print_problem(request);
         print_end();
-        let mut next = memory;
-        next.wrong = one_more(memory.wrong);
-        return next;
+        return one_more(wrong);
     }
     if request.kind == COMMENT {
         print_words(line);
-        print_end();
-        return memory;
     }
-    if request.kind == BLANK {
-        print_end();
-        return memory;
-    }
-    let numbers = request.numbers;
-    memory_left(memory, request.kind, numbers, request.count)
+    print_end();
+    wrong
 }
 
-// Answers a line that leaves the lent places as they are.
-fn ask(
-    memory: Memory,
-    values: &[u64],
-    plan: &[u8],
-    bytes: &[u8],
-    kind: usize,
-    numbers: [u32; 8],
-) -> Memory {
-    look(memory, plan, kind, numbers[0]);
-    let held = memory.state;
-    let queue = held.queue;
-    show_sheet(memory.sheet, kind);
-    show_state(queue, held.slot, held.energy, kind);
-    show_places(values, plan, bytes, kind, numbers[0], numbers[1]);
-    sum_places(values, plan, bytes, kind, numbers[0], numbers[1]);
-    let sheet = read(memory.sheet, plan, bytes, kind);
-    let state = step(memory, plan, kind, numbers[0], numbers[1]);
-    let mut next = memory;
-    next.sheet = sheet;
-    next.state = state;
-    next
-}
-
-// Changes lent places, where the line says what to put there.
-fn put(values: &mut [u64], plan: &mut [u8], bytes: &mut [u8], line: &[u8], request: Request) {
-    let change = change_of(request, line);
-    let value_count = changes(
-        change,
-        FILL_VALUES,
-        PUT_VALUES,
-        PUT_VALUES,
-        values.len() as u64,
-    );
-    let plan_count = changes(change, FILL_PLAN, PUT_PLAN, PUT_PLAN, plan.len() as u64);
-    let byte_count = changes(
-        change,
-        FILL_BYTES,
-        PUT_BYTES,
-        PUT_ALL_BYTES,
-        bytes.len() as u64,
-    );
-    put_values(values, line, change, value_count);
-    put_bytes(plan, line, change, plan_count, DECIMAL);
-    put_bytes(bytes, line, change, byte_count, HEX);
-}
-
-// Changes lent places by what the line puts there, or by its call; and says what least energy is left.
-fn change(
-    memory: Memory,
-    values: &mut [u64],
-    plan: &mut [u8],
-    bytes: &mut [u8],
-    line: &[u8],
-    request: Request,
-) -> u64 {
-    if request.kind <= PUT_BYTES {
-        put(values, plan, bytes, line, request);
-        return memory.least;
-    }
-    let listed = least_of(memory.least, request);
-    write(memory.sheet, listed, plan, bytes, request.kind);
-    make_plan(memory.sheet, memory.least, values, plan, request.kind)
-}
-
-// Answers a line over the lent places: each of these looks whether the line is its own.
-fn answer(
-    memory: Memory,
-    values: &mut [u64],
-    plan: &mut [u8],
-    bytes: &mut [u8],
-    line: &[u8],
-    request: Request,
-) -> Memory {
-    let numbers = request.numbers;
-    let least = change(memory, values, plan, bytes, line, request);
-    let mut next = memory;
-    next.least = least;
-    ask(next, values, plan, bytes, request.kind, numbers)
-}
-
-// The smaller of two numbers.
-fn smaller(one: usize, other: usize) -> usize
-    ensures { λ r. ⌜ (r ≤ one) × (r ≤ other) ⌝ }
-{
-    if one < other {
-        return one;
-    }
-    other
-}
-
-// Lends each buffer as far as memory says.
-fn answer_lent(
-    memory: Memory,
-    values: &mut [u64],
-    plan: &mut [u8],
-    bytes: &mut [u8],
-    line: &[u8],
-    request: Request,
-) -> Memory {
-    let value_count = smaller(memory.values as usize, values.len());
-    let plan_count = smaller(memory.plan as usize, plan.len());
-    let byte_count = smaller(memory.bytes as usize, bytes.len());
-    answer(
-        memory,
-        &mut values[..value_count],
+// Makes a line's call on each buffer as far as it is lent.
+fn lend(numbers: &mut [u64; 816947], plan: &mut [u8], bytes: &mut [u8], request: Request) {
+    let plan_count = smaller(numbers[PLAN_LENT] as usize, plan.len());
+    let byte_count = smaller(numbers[BYTES_LENT] as usize, bytes.len());
+    make(
+        numbers,
         &mut plan[..plan_count],
         &mut bytes[..byte_count],
-        line,
         request,
-    )
+    );
 }
 
-// How many places of the buffer are lent that `put`, `show` or `sum` of a kind reaches.
-fn lent_of(memory: Memory, kind: usize) -> u32 {
-    if kind < PUT_PLAN {
-        return memory.values;
+// Answers a line: where so many places of its buffer are lent.
+fn answer(
+    numbers: &mut [u64; 816947],
+    plan: &mut [u8],
+    bytes: &mut [u8],
+    line: &[u8],
+    request: Request,
+    lent: u64,
+) {
+    if request.kind <= PUT_ALL_BYTES {
+        put(numbers, plan, bytes, line, request, lent);
+        return;
     }
-    if kind < PUT_BYTES {
-        return memory.plan;
+    if request.kind < CALL_READ {
+        show(numbers, plan, bytes, request);
+        return;
     }
-    memory.bytes
+    if request.kind <= CALL_ADVANCE {
+        lend(numbers, plan, bytes, request);
+        return;
+    }
+    let wrong = settle(line, request, numbers[WRONG]);
+    numbers[WRONG] = wrong;
+}
+
+// How many places of the buffer of a kind are lent.
+fn lent_of(numbers: &[u64; 816947], kind: usize) -> u64 {
+    let buffer = cell(kind, BUFFER);
+    if buffer == IN_PLAN {
+        return numbers[PLAN_LENT];
+    }
+    if buffer == IN_BYTES {
+        return numbers[BYTES_LENT];
+    }
+    numbers[VALUES_LENT]
 }
 
 // Answers a line of so many bytes, of which its room holds as many as it can.
 pub fn answer_line(
-    memory: Memory,
-    values: &mut [u64],
+    numbers: &mut [u64; 816947],
     plan: &mut [u8],
     bytes: &mut [u8],
     room: &[u8],
     length: usize,
-) -> Memory {
+) {
     let held = smaller(length, room.len());
     let line = &room[..held];
     let asked = request_of(line);
-    let request = checked(asked, length == held, lent_of(memory, asked.kind));
-    let left = settled(memory, line, request);
-    answer_lent(left, values, plan, bytes, line, request)
+    let lent = lent_of(numbers, asked.kind);
+    let request = checked(asked, length == held, lent);
+    answer(numbers, plan, bytes, line, request, lent);
 }

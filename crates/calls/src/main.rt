@@ -1,26 +1,32 @@
 // Reads a script from standard input, a line for a call, and answers each line: docs/CALLS.md is its page. It is thin: what it calls is
 // proved, and it only lends the memory. What it prints is tested and not proved.
+mod input;
+mod kinds;
 mod line;
 mod make;
 mod memory;
+mod print;
+mod put;
+mod request;
+mod show;
+mod words;
 
+use input::next_line;
 use libc::STDERR_FILENO;
 use line::answer_line;
-use memory::no_memory;
-use requests::first_line;
-use requests::next_line;
+use memory::WRONG;
 
-// Answers every line, and says how many were not understood. The loop counts its turns down, from a number that no run uses up.
-fn answer_all(values: &mut [u64], plan: &mut [u8], bytes: &mut [u8], room: &mut [u8]) -> u64 {
-    let mut memory = no_memory();
-    let mut line = next_line(first_line(), room);
+// Answers every line. The loop counts its turns down, from a number that no run uses up.
+fn answer_all(numbers: &mut [u64; 816947], plan: &mut [u8], bytes: &mut [u8], room: &mut [u8]) {
     let mut turns = 18446744073709551615u64;
-    while 0 < turns && line.present {
-        memory = answer_line(memory, values, plan, bytes, room, line.length);
-        line = next_line(line, room);
+    while 0 < turns {
+        let line = next_line(room);
+        if !line.present {
+            return;
+        }
+        answer_line(numbers, plan, bytes, room, line.length);
         turns -= 1;
     }
-    memory.wrong
 }
 
 // Says on standard error how many lines were not understood: `./run` then ends with status 1.
@@ -38,10 +44,10 @@ fn tell(wrong: u64) {
 }
 
 fn main() {
-    let mut values = [0u64; 816816];
+    let mut numbers = [0u64; 816947];
     let mut plan = [0u8; 1000000];
     let mut bytes = [0u8; 65536];
     let mut room = [0u8; 65536];
-    let wrong = answer_all(&mut values, &mut plan, &mut bytes, &mut room);
-    tell(wrong);
+    answer_all(&mut numbers, &mut plan, &mut bytes, &mut room);
+    tell(numbers[WRONG]);
 }

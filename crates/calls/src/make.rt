@@ -1,26 +1,32 @@
-// The lines that make a call. Each function looks whether the line is its own, and does nothing where it is not.
-use crate::memory::Memory;
-use answers::IN_DECIMAL;
-use answers::SILENT;
-use answers::print_end;
-use answers::print_field;
-use answers::print_sheet;
-use answers::print_state;
-use answers::print_words;
-use answers::walk_bytes;
+// The lines that make a call.
+use crate::kinds::CALL_ADVANCE;
+use crate::kinds::CALL_LIST;
+use crate::kinds::CALL_PLAN;
+use crate::kinds::CALL_READ;
+use crate::kinds::CALL_READ_PLAN;
+use crate::kinds::CALL_ROW;
+use crate::kinds::CALL_SPEED;
+use crate::kinds::CALL_START;
+use crate::kinds::CALL_WRITE;
+use crate::kinds::SUM_ROW;
+use crate::memory::LEAST;
+use crate::memory::VALUES_LENT;
+use crate::memory::keep_sheet;
+use crate::memory::keep_state;
+use crate::memory::narrow;
+use crate::memory::sheet_of;
+use crate::memory::smaller;
+use crate::memory::state_of;
+use crate::print::IN_DECIMAL;
+use crate::print::SILENT;
+use crate::print::print_end;
+use crate::print::print_field;
+use crate::print::print_sheet;
+use crate::print::print_state;
+use crate::print::print_words;
+use crate::print::walk_bytes;
+use crate::request::Request;
 use model::Sheet;
-use requests::CALL_ADVANCE;
-use requests::CALL_LIST;
-use requests::CALL_PLAN;
-use requests::CALL_READ;
-use requests::CALL_READ_PLAN;
-use requests::CALL_ROW;
-use requests::CALL_SPEED;
-use requests::CALL_START;
-use requests::CALL_WRITE;
-use requests::Request;
-use requests::SUM_ROW;
-use stepper::State;
 use stepper::Stepped;
 
 // The number of a call and one more number, to the line's end.
@@ -30,53 +36,53 @@ fn print_answer(name: &[u8], number: u32, more: &[u8], other: u64) {
     print_end();
 }
 
-// `read` of some bytes.
-fn read_bytes(bytes: &[u8]) -> Sheet {
+// `read` of some bytes: the sheet is kept.
+fn read(numbers: &mut [u64; 816947], bytes: &[u8]) {
     let answer = reader::read(bytes);
+    keep_sheet(numbers, answer.sheet);
     print_field(b"read ", answer.number as u64);
     print_words(b", ");
-    print_sheet(answer.sheet);
-    answer.sheet
+    print_sheet(numbers);
 }
 
-// `read` and `read plan`: the sheet that is left.
-pub fn read(sheet: Sheet, plan: &[u8], bytes: &[u8], kind: usize) -> Sheet {
+// `read` and `read plan`.
+fn make_sheet(numbers: &mut [u64; 816947], plan: &[u8], bytes: &[u8], kind: usize) {
     if kind == CALL_READ {
-        return read_bytes(bytes);
+        read(numbers, bytes);
     }
     if kind == CALL_READ_PLAN {
-        return read_bytes(plan);
+        read(numbers, plan);
     }
-    sheet
 }
 
-// `plan`: the least energy that is left.
-pub fn make_plan(
-    sheet: Sheet,
-    least: u64,
-    values: &mut [u64],
-    plan: &mut [u8],
-    kind: usize,
-) -> u64 {
-    if kind != CALL_PLAN {
-        return least;
-    }
-    let answer = planner::plan(sheet, values, plan);
+// `plan`, into so many of the values: its least energy.
+fn plan_into(sheet: Sheet, numbers: &mut [u64], count: usize, plan: &mut [u8]) -> u64 {
+    let lent = smaller(count, numbers.len());
+    let answer = planner::plan(sheet, &mut numbers[..lent], plan);
     print_field(b"plan ", answer.number as u64);
     print_answer(b", queues ", answer.queues, b", least ", answer.least);
     answer.least
 }
 
+// `plan`: its least energy is kept.
+fn make_plan(numbers: &mut [u64; 816947], sheet: Sheet, plan: &mut [u8], kind: usize) {
+    if kind == CALL_PLAN {
+        let count = numbers[VALUES_LENT] as usize;
+        let least = plan_into(sheet, numbers, count, plan);
+        numbers[LEAST] = least;
+    }
+}
+
 // The least energy of `list`: what the line says, or the last plan.
-pub fn least_of(least: u64, request: Request) -> u64 {
+fn least_of(least: u64, request: Request) -> u64 {
     if request.count == 0 {
         return least;
     }
-    request.number
+    request.first
 }
 
 // `write`, `list` and `list LEAST`.
-pub fn write(sheet: Sheet, least: u64, plan: &[u8], bytes: &mut [u8], kind: usize) {
+fn make_text(sheet: Sheet, least: u64, plan: &[u8], bytes: &mut [u8], kind: usize) {
     if kind == CALL_WRITE {
         let answer = writer::write(sheet, bytes);
         print_answer(b"write ", answer.number, b", length ", answer.length as u64);
@@ -88,54 +94,65 @@ pub fn write(sheet: Sheet, least: u64, plan: &[u8], bytes: &mut [u8], kind: usiz
     }
 }
 
-// As many bytes as there are.
-const ALL: u32 = 4294967295;
-
 // A row's length, and its bytes or their checksum.
 fn print_row(row: &[u8], kind: usize) {
     print_field(b"row ", row.len() as u64);
     print_words(b" bytes");
     if kind == SUM_ROW {
-        print_field(b", sum ", walk_bytes(row, 0, ALL, SILENT));
+        print_field(b", sum ", walk_bytes(row, 0, row.len() as u64, SILENT));
         print_end();
         return;
     }
     print_words(b":");
-    walk_bytes(row, 0, ALL, IN_DECIMAL);
+    walk_bytes(row, 0, row.len() as u64, IN_DECIMAL);
     print_end();
 }
 
 // `row SLOT` and `sum row SLOT`, and `speed`.
-pub fn look(memory: Memory, plan: &[u8], kind: usize, slot: u32) {
+fn look(numbers: &[u64; 816947], sheet: Sheet, plan: &[u8], kind: usize, slot: u32) {
     if kind == CALL_ROW || kind == SUM_ROW {
-        print_row(planner::row(memory.sheet, plan, slot), kind);
+        print_row(planner::row(sheet, plan, slot), kind);
         return;
     }
     if kind == CALL_SPEED {
-        let state = memory.state;
-        let answer = state.speed(memory.sheet, plan);
+        let state = state_of(numbers);
+        let answer = state.speed(sheet, plan);
         print_answer(b"speed ", answer.number, b", speed ", answer.speed as u64);
     }
 }
 
-// What a start or an advance answered: its state is left.
-fn left(name: &[u8], answer: Stepped) -> State {
-    let state = answer.state;
-    let queue = state.queue;
+// What a start or an advance answered: its state is kept.
+fn left(numbers: &mut [u64; 816947], name: &[u8], answer: Stepped) {
+    keep_state(numbers, answer.state);
     print_field(name, answer.number as u64);
-    print_state(queue, state.slot, state.energy);
-    state
+    print_state(numbers);
 }
 
-// `start` and `advance SIZE DEADLINE`: the state that is left.
-pub fn step(memory: Memory, plan: &[u8], kind: usize, size: u32, deadline: u32) -> State {
-    let state = memory.state;
-    if kind == CALL_START {
-        return left(b"start ", state.start(memory.sheet));
+// `start` and `advance SIZE DEADLINE`.
+fn step(numbers: &mut [u64; 816947], sheet: Sheet, plan: &[u8], request: Request) {
+    let state = state_of(numbers);
+    if request.kind == CALL_START {
+        left(numbers, b"start ", state.start(sheet));
     }
-    if kind == CALL_ADVANCE {
-        let answer = state.advance(memory.sheet, plan, size, deadline);
-        return left(b"advance ", answer);
+    if request.kind == CALL_ADVANCE {
+        let size = narrow(request.first);
+        let answer = state.advance(sheet, plan, size, narrow(request.second));
+        left(numbers, b"advance ", answer);
     }
-    state
+}
+
+// Makes a line's call: each of these looks whether the line is its own.
+pub fn make(numbers: &mut [u64; 816947], plan: &mut [u8], bytes: &mut [u8], request: Request) {
+    let sheet = sheet_of(numbers);
+    make_text(
+        sheet,
+        least_of(numbers[LEAST], request),
+        plan,
+        bytes,
+        request.kind,
+    );
+    make_plan(numbers, sheet, plan, request.kind);
+    look(numbers, sheet, plan, request.kind, narrow(request.first));
+    step(numbers, sheet, plan, request);
+    make_sheet(numbers, plan, bytes, request.kind);
 }

@@ -1,160 +1,163 @@
-// What one line leaves and the next one uses: the sheet, the state, how much of each buffer is lent, the least energy of the last plan; and
-// how many lines were not understood. The lines that set these are here.
+// What one line leaves and the next one uses, as far as it is numbers: they stand in one lent array, the values first and the rest behind
+// them. A sheet and a state are made of it for a call, and put back.
 use model::Job;
 use model::Sheet;
 use model::Speed;
-use requests::CLEAR_SHEET;
-use requests::LEND_BYTES;
-use requests::LEND_PLAN;
-use requests::LEND_VALUES;
-use requests::PUT_ALL_BYTES;
-use requests::SET_BOUND;
-use requests::SET_HORIZON;
-use requests::SET_JOB;
-use requests::SET_JOBS;
-use requests::SET_SPEED;
-use requests::SET_SPEEDS;
-use requests::SET_STATE;
-use requests::narrow;
 use stepper::State;
+ghost use Prim.Native.Nat.{_≤_};
 
-pub struct Memory {
-    pub sheet: Sheet,
-    pub state: State,
-    pub least: u64,
-    pub values: u32,
-    pub plan: u32,
-    pub bytes: u32,
-    pub wrong: u64,
+// The places behind the values: the sheet's fields in the order of its bytes, with two places for each of nine speeds and three for each of
+// 32 jobs; the six totals of the state's queue, its slot and its energy; the least energy of the last plan; how much of each buffer is
+// lent; and how many lines were not understood.
+pub const BOUND: usize = 816816;
+
+pub const SPEED_COUNT: usize = 816817;
+
+pub const SPEEDS: usize = 816818;
+
+pub const HORIZON: usize = 816836;
+
+pub const JOB_COUNT: usize = 816837;
+
+pub const JOBS: usize = 816838;
+
+pub const QUEUE: usize = 816934;
+
+pub const SLOT: usize = 816940;
+
+pub const ENERGY: usize = 816941;
+
+pub const LEAST: usize = 816942;
+
+pub const VALUES_LENT: usize = 816943;
+
+pub const PLAN_LENT: usize = 816944;
+
+pub const BYTES_LENT: usize = 816945;
+
+pub const WRONG: usize = 816946;
+
+// The number of 32 bits that a number of at most 32 bits is.
+pub fn narrow(number: u64) -> u32 {
+    (number % 4294967296) as u32
 }
 
-// The sheet with zero at every place.
-fn no_sheet() -> Sheet {
+// The smaller of two numbers.
+pub fn smaller(one: usize, other: usize) -> usize
+    ensures { λ r. ⌜ (r ≤ one) × (r ≤ other) ⌝ }
+{
+    if one < other {
+        return one;
+    }
+    other
+}
+
+// The speeds of the sheet.
+fn speeds_of(numbers: &[u64; 816947]) -> [Speed; 9] {
+    let mut speeds = [Speed {
+        speed: 0,
+        energy: 0,
+    }; 9];
+    let mut place = 0;
+    while place < 9 {
+        speeds[place] = Speed {
+            speed: narrow(numbers[SPEEDS + 2 * place]),
+            energy: narrow(numbers[SPEEDS + 2 * place + 1]),
+        };
+        place += 1;
+    }
+    speeds
+}
+
+// The jobs of the sheet.
+fn jobs_of(numbers: &[u64; 816947]) -> [Job; 32] {
+    let mut jobs = [Job {
+        weight: 0,
+        size: 0,
+        deadline: 0,
+    }; 32];
+    let mut place = 0;
+    while place < 32 {
+        jobs[place] = Job {
+            weight: narrow(numbers[JOBS + 3 * place]),
+            size: narrow(numbers[JOBS + 3 * place + 1]),
+            deadline: narrow(numbers[JOBS + 3 * place + 2]),
+        };
+        place += 1;
+    }
+    jobs
+}
+
+// The sheet.
+pub fn sheet_of(numbers: &[u64; 816947]) -> Sheet {
     Sheet {
-        bound: 0,
-        speed_count: 0,
-        speeds: [Speed {
-            speed: 0,
-            energy: 0,
-        }; 9],
-        horizon: 0,
-        job_count: 0,
-        jobs: [Job {
-            weight: 0,
-            size: 0,
-            deadline: 0,
-        }; 32],
+        bound: narrow(numbers[BOUND]),
+        speed_count: narrow(numbers[SPEED_COUNT]),
+        speeds: speeds_of(numbers),
+        horizon: narrow(numbers[HORIZON]),
+        job_count: narrow(numbers[JOB_COUNT]),
+        jobs: jobs_of(numbers),
     }
 }
 
-// What a script begins with.
-pub fn no_memory() -> Memory {
-    Memory {
-        sheet: no_sheet(),
-        state: State {
-            queue: [0; 6],
-            slot: 0,
-            energy: 0,
-        },
-        least: 0,
-        values: 0,
-        plan: 0,
-        bytes: 0,
-        wrong: 0,
+// Keeps the speeds of a sheet.
+fn keep_speeds(numbers: &mut [u64; 816947], speeds: [Speed; 9]) {
+    let mut place = 0;
+    while place < 9 {
+        let one = speeds[place];
+        numbers[SPEEDS + 2 * place] = one.speed as u64;
+        numbers[SPEEDS + 2 * place + 1] = one.energy as u64;
+        place += 1;
     }
 }
 
-// `set speed PLACE SPEED ENERGY`.
-fn with_speed(sheet: Sheet, numbers: [u32; 8]) -> Sheet {
-    let place = (numbers[0] % 9) as usize;
-    let mut next = sheet;
-    next.speeds[place] = Speed {
-        speed: numbers[1],
-        energy: numbers[2],
-    };
-    next
+// Keeps the jobs of a sheet.
+fn keep_jobs(numbers: &mut [u64; 816947], jobs: [Job; 32]) {
+    let mut place = 0;
+    while place < 32 {
+        let one = jobs[place];
+        numbers[JOBS + 3 * place] = one.weight as u64;
+        numbers[JOBS + 3 * place + 1] = one.size as u64;
+        numbers[JOBS + 3 * place + 2] = one.deadline as u64;
+        place += 1;
+    }
 }
 
-// `set job PLACE WEIGHT SIZE DEADLINE`.
-fn with_job(sheet: Sheet, numbers: [u32; 8]) -> Sheet {
-    let place = (numbers[0] % 32) as usize;
-    let mut next = sheet;
-    next.jobs[place] = Job {
-        weight: numbers[1],
-        size: numbers[2],
-        deadline: numbers[3],
-    };
-    next
+// Keeps a sheet.
+pub fn keep_sheet(numbers: &mut [u64; 816947], sheet: Sheet) {
+    let speeds = sheet.speeds;
+    let jobs = sheet.jobs;
+    numbers[BOUND] = sheet.bound as u64;
+    numbers[SPEED_COUNT] = sheet.speed_count as u64;
+    numbers[HORIZON] = sheet.horizon as u64;
+    numbers[JOB_COUNT] = sheet.job_count as u64;
+    keep_speeds(numbers, speeds);
+    keep_jobs(numbers, jobs);
 }
 
-// What a line leaves of the sheet.
-pub fn sheet_left(sheet: Sheet, kind: usize, numbers: [u32; 8]) -> Sheet {
-    let mut next = sheet;
-    if kind == SET_BOUND {
-        next.bound = numbers[0];
-    }
-    if kind == SET_SPEEDS {
-        next.speed_count = numbers[0];
-    }
-    if kind == SET_HORIZON {
-        next.horizon = numbers[0];
-    }
-    if kind == SET_JOBS {
-        next.job_count = numbers[0];
-    }
-    if kind == SET_SPEED {
-        return with_speed(sheet, numbers);
-    }
-    if kind == SET_JOB {
-        return with_job(sheet, numbers);
-    }
-    if kind == CLEAR_SHEET {
-        return no_sheet();
-    }
-    next
-}
-
-// What a line leaves of the state.
-pub fn state_left(state: State, kind: usize, numbers: [u32; 8]) -> State {
-    if kind != SET_STATE {
-        return state;
+// The state.
+pub fn state_of(numbers: &[u64; 816947]) -> State {
+    let mut queue = [0; 6];
+    let mut place = 0;
+    while place < 6 {
+        queue[place] = narrow(numbers[QUEUE + place]);
+        place += 1;
     }
     State {
-        queue: [
-            numbers[0],
-            numbers[1],
-            numbers[2],
-            numbers[3],
-            numbers[4],
-            numbers[5],
-        ],
-        slot: numbers[6],
-        energy: numbers[7],
+        queue,
+        slot: narrow(numbers[SLOT]),
+        energy: narrow(numbers[ENERGY]),
     }
 }
 
-// What a line that sets or lends something leaves; `bytes` lends as many places as it has numbers.
-pub fn memory_left(memory: Memory, kind: usize, numbers: [u32; 8], count: u64) -> Memory {
-    let mut next = memory;
-    if kind == LEND_VALUES {
-        next.values = numbers[0];
-        return next;
+// Keeps a state.
+pub fn keep_state(numbers: &mut [u64; 816947], state: State) {
+    let queue = state.queue;
+    let mut place = 0;
+    while place < 6 {
+        numbers[QUEUE + place] = queue[place] as u64;
+        place += 1;
     }
-    if kind == LEND_PLAN {
-        next.plan = numbers[0];
-        return next;
-    }
-    if kind == LEND_BYTES {
-        next.bytes = numbers[0];
-        return next;
-    }
-    if kind == PUT_ALL_BYTES {
-        next.bytes = narrow(count);
-        return next;
-    }
-    let sheet = sheet_left(memory.sheet, kind, numbers);
-    let state = state_left(memory.state, kind, numbers);
-    next.sheet = sheet;
-    next.state = state;
-    next
+    numbers[SLOT] = state.slot as u64;
+    numbers[ENERGY] = state.energy as u64;
 }

@@ -7,19 +7,19 @@ use Rattle.calls.proofs.main.Statement.{statement}
 use Rattle.calls.proofs.main.Tie as tie
 
 slice-aggregate-answer-all : tie.Need-slice-aggregate-answer-all
-slice-aggregate-answer-all c = sym (length-replicate {0} {A = ℕ} 816816 0)
+slice-aggregate-answer-all c = sym (length-replicate {0} {A = ℕ} 1000000 0)
 
 slice-aggregate-answer-all-2 : tie.Need-slice-aggregate-answer-all-2
-slice-aggregate-answer-all-2 c = sym (length-replicate {0} {A = ℕ} 1000000 0)
+slice-aggregate-answer-all-2 c = sym (length-replicate {0} {A = ℕ} 65536 0)
 
 slice-aggregate-answer-all-3 : tie.Need-slice-aggregate-answer-all-3
 slice-aggregate-answer-all-3 c = sym (length-replicate {0} {A = ℕ} 65536 0)
 
-slice-aggregate-answer-all-4 : tie.Need-slice-aggregate-answer-all-4
-slice-aggregate-answer-all-4 c = sym (length-replicate {0} {A = ℕ} 65536 0)
-
 answer-all-requires : tie.Need-answer-all-requires
 answer-all-requires c κs = search needs
+
+array-read-tell : tie.Need-array-read-tell
+array-read-tell c = search needs
 
 tell-requires : tie.Need-tell-requires
 tell-requires c κs = search needs
@@ -34,7 +34,7 @@ main-spec =
     slice-aggregate-answer-all
     slice-aggregate-answer-all-2
     slice-aggregate-answer-all-3
-    slice-aggregate-answer-all-4
     answer-all-requires
+    array-read-tell
     tell-requires
     returns)

@@ -1,0 +1,67 @@
+-- `next_line` is safe and ends.
+use mathlib.Core.Path.{_≡_}
+use lib.ListN.{length}
+use borrow.Author.Needs.{needs}
+use Rattle.calls.proofs.input.next_line.Statement.{statement}
+use Rattle.calls.proofs.input.next_line.Tie as tie
+
+abbrev Inv-loop : tie.InvT-loop
+Inv-loop room₀ count₀ turns₀ room count turns = length room ≡ length room₀
+
+abbrev μ-loop : tie.MeasureT-loop
+μ-loop room₀ count₀ turns₀ room count turns = turns
+
+loop-holds : tie.Need-loop-holds Inv-loop μ-loop
+loop-holds c = search needs
+
+next-byte-requires : tie.Need-next-byte-requires Inv-loop μ-loop
+next-byte-requires c κs = search needs
+
+same-length : tie.Need-same-length Inv-loop μ-loop
+same-length c = search needs
+
+returns : tie.Need-returns Inv-loop μ-loop
+returns c = search needs
+
+same-length-2 : tie.Need-same-length-2 Inv-loop μ-loop
+same-length-2 c = search needs
+
+returns-2 : tie.Need-returns-2 Inv-loop μ-loop
+returns-2 c = search needs
+
+put-byte-requires : tie.Need-put-byte-requires Inv-loop μ-loop
+put-byte-requires c κs = search needs
+
+sub-turns : tie.Need-sub-turns Inv-loop μ-loop
+sub-turns c = search needs
+
+loop-less : tie.Need-loop-less Inv-loop μ-loop
+loop-less c = search needs
+
+loop-again : tie.Need-loop-again Inv-loop μ-loop
+loop-again c = search needs
+
+same-length-3 : tie.Need-same-length-3 Inv-loop μ-loop
+same-length-3 c = search needs
+
+returns-3 : tie.Need-returns-3 Inv-loop μ-loop
+returns-3 c = search needs
+
+pub next-line-spec : {M : Type 1} → statement M
+next-line-spec =
+    tie.close
+    (tie.spec
+    Inv-loop
+    μ-loop
+    loop-holds
+    next-byte-requires
+    same-length
+    returns
+    same-length-2
+    returns-2
+    put-byte-requires
+    sub-turns
+    loop-less
+    loop-again
+    same-length-3
+    returns-3)
