@@ -102,7 +102,7 @@ fn lend(numbers: &mut [u64; 816947], plan: &mut [u8], bytes: &mut [u8], request:
     );
 }
 
-// Answers a line: where so many places of its buffer are lent.
+// Answers a line, of whose buffer so many places are lent.
 fn answer(
     numbers: &mut [u64; 816947],
     plan: &mut [u8],
