@@ -25,17 +25,17 @@ fn next_byte() -> Byte {
 }
 
 // Puts a byte behind so many of a line, and answers how many there are then.
-fn put_byte(room: &mut [u8], length: usize, byte: u8) -> usize {
-    if length < room.len() {
+fn put_byte(room: &mut [u8; 65536], length: usize, byte: u8) -> usize {
+    if length < 65536 {
         room[length] = byte;
         return length + 1;
     }
-    18446744073709551615
+    65537
 }
 
 // The next line, without its line feed. A loop has to end, and nothing says that a line does: it counts its turns down, from a number that
 // no run uses up.
-pub fn next_line(room: &mut [u8]) -> Line {
+pub fn next_line(room: &mut [u8; 65536]) -> Line {
     let mut count = 0;
     let mut turns = 18446744073709551615u64;
     while 0 < turns {

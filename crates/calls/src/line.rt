@@ -105,8 +105,8 @@ fn lend(numbers: &mut [u64; 816947], plan: &mut [u8], bytes: &mut [u8], request:
 // Answers a line, of whose buffer so many places are lent.
 fn answer(
     numbers: &mut [u64; 816947],
-    plan: &mut [u8],
-    bytes: &mut [u8],
+    plan: &mut [u8; 1000000],
+    bytes: &mut [u8; 65536],
     line: &[u8],
     request: Request,
     lent: u64,
@@ -142,8 +142,8 @@ fn lent_of(numbers: &[u64; 816947], kind: usize) -> u64 {
 // Answers a line of so many bytes, of which its room holds as many as it can.
 pub fn answer_line(
     numbers: &mut [u64; 816947],
-    plan: &mut [u8],
-    bytes: &mut [u8],
+    plan: &mut [u8; 1000000],
+    bytes: &mut [u8; 65536],
     room: &[u8],
     length: usize,
 ) {

@@ -17,7 +17,12 @@ use line::answer_line;
 use memory::WRONG;
 
 // Answers every line. The loop counts its turns down, from a number that no run uses up.
-fn answer_all(numbers: &mut [u64; 816947], plan: &mut [u8], bytes: &mut [u8], room: &mut [u8]) {
+fn answer_all(
+    numbers: &mut [u64; 816947],
+    plan: &mut [u8; 1000000],
+    bytes: &mut [u8; 65536],
+    room: &mut [u8; 65536],
+) {
     let mut turns = 18446744073709551615u64;
     while 0 < turns {
         let line = next_line(room);

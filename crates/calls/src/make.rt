@@ -27,6 +27,7 @@ use crate::print::print_words;
 use crate::print::walk_bytes;
 use crate::request::Request;
 use model::Sheet;
+use planner::PlanAnswer;
 use stepper::Stepped;
 
 // The number of a call and one more number, to the line's end.
@@ -55,21 +56,20 @@ fn make_sheet(numbers: &mut [u64; 816947], plan: &[u8], bytes: &[u8], kind: usiz
     }
 }
 
-// `plan`, into so many of the values: its least energy.
-fn plan_into(sheet: Sheet, numbers: &mut [u64], count: usize, plan: &mut [u8]) -> u64 {
+// `plan`, into so many of the values.
+fn plan_into(sheet: Sheet, numbers: &mut [u64], count: usize, plan: &mut [u8]) -> PlanAnswer {
     let lent = smaller(count, numbers.len());
-    let answer = planner::plan(sheet, &mut numbers[..lent], plan);
-    print_field(b"plan ", answer.number as u64);
-    print_answer(b", queues ", answer.queues, b", least ", answer.least);
-    answer.least
+    planner::plan(sheet, &mut numbers[..lent], plan)
 }
 
 // `plan`: its least energy is kept.
 fn make_plan(numbers: &mut [u64; 816947], sheet: Sheet, plan: &mut [u8], kind: usize) {
     if kind == CALL_PLAN {
         let count = numbers[VALUES_LENT] as usize;
-        let least = plan_into(sheet, numbers, count, plan);
-        numbers[LEAST] = least;
+        let answer = plan_into(sheet, numbers, count, plan);
+        numbers[LEAST] = answer.least;
+        print_field(b"plan ", answer.number as u64);
+        print_answer(b", queues ", answer.queues, b", least ", answer.least);
     }
 }
 
@@ -81,16 +81,26 @@ fn least_of(least: u64, request: Request) -> u64 {
     request.first
 }
 
-// `write`, `list` and `list LEAST`.
+// `write`.
+fn write(sheet: Sheet, bytes: &mut [u8]) {
+    let answer = writer::write(sheet, bytes);
+    print_answer(b"write ", answer.number, b", length ", answer.length as u64);
+}
+
+// `list` and `list LEAST`.
+fn list(sheet: Sheet, least: u64, plan: &[u8], bytes: &mut [u8]) {
+    let answer = listing::list(sheet, least, plan, bytes);
+    print_answer(b"list ", answer.number, b", length ", answer.length as u64);
+}
+
+// Either.
 fn make_text(sheet: Sheet, least: u64, plan: &[u8], bytes: &mut [u8], kind: usize) {
     if kind == CALL_WRITE {
-        let answer = writer::write(sheet, bytes);
-        print_answer(b"write ", answer.number, b", length ", answer.length as u64);
+        write(sheet, bytes);
         return;
     }
     if kind == CALL_LIST {
-        let answer = listing::list(sheet, least, plan, bytes);
-        print_answer(b"list ", answer.number, b", length ", answer.length as u64);
+        list(sheet, least, plan, bytes);
     }
 }
 
@@ -141,18 +151,18 @@ fn step(numbers: &mut [u64; 816947], sheet: Sheet, plan: &[u8], request: Request
     }
 }
 
-// Makes a line's call: each of these looks whether the line is its own.
-pub fn make(numbers: &mut [u64; 816947], plan: &mut [u8], bytes: &mut [u8], request: Request) {
+// Makes a line's call with the lent plan: each of these looks whether the line is its own.
+fn make_with_plan(numbers: &mut [u64; 816947], plan: &mut [u8], request: Request) {
     let sheet = sheet_of(numbers);
-    make_text(
-        sheet,
-        least_of(numbers[LEAST], request),
-        plan,
-        bytes,
-        request.kind,
-    );
     make_plan(numbers, sheet, plan, request.kind);
     look(numbers, sheet, plan, request.kind, narrow(request.first));
     step(numbers, sheet, plan, request);
+}
+
+// Makes a line's call, likewise.
+pub fn make(numbers: &mut [u64; 816947], plan: &mut [u8], bytes: &mut [u8], request: Request) {
+    let least = least_of(numbers[LEAST], request);
+    make_text(sheet_of(numbers), least, plan, bytes, request.kind);
     make_sheet(numbers, plan, bytes, request.kind);
+    make_with_plan(numbers, plan, request);
 }

@@ -66,8 +66,8 @@ fn put_bytes(bytes: &mut [u8], line: &[u8], request: Request, lent: u64, base: u
 // Puts what a line says where it belongs; `bytes` lends as many places as it fills.
 pub fn put(
     numbers: &mut [u64; 816947],
-    plan: &mut [u8],
-    bytes: &mut [u8],
+    plan: &mut [u8; 1000000],
+    bytes: &mut [u8; 65536],
     line: &[u8],
     request: Request,
     lent: u64,

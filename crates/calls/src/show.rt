@@ -69,7 +69,12 @@ fn print_rest(form: u32, walked: u64, count: u64) {
 }
 
 // `show` and `sum` of places.
-fn show_places(numbers: &[u64; 816947], plan: &[u8], bytes: &[u8], request: Request) {
+fn show_places(
+    numbers: &[u64; 816947],
+    plan: &[u8; 1000000],
+    bytes: &[u8; 65536],
+    request: Request,
+) {
     let form = form_of(request.kind);
     let from = first_place(request);
     let count = place_count(request, 0);
@@ -86,7 +91,7 @@ fn show_places(numbers: &[u64; 816947], plan: &[u8], bytes: &[u8], request: Requ
 }
 
 // Answers a line that asks.
-pub fn show(numbers: &[u64; 816947], plan: &[u8], bytes: &[u8], request: Request) {
+pub fn show(numbers: &[u64; 816947], plan: &[u8; 1000000], bytes: &[u8; 65536], request: Request) {
     if request.kind == SHOW_SHEET {
         print_sheet(numbers);
         return;

@@ -1,12 +1,11 @@
 -- `answer_all` is safe and ends.
-use mathlib.Core.Path.{_≡_}
-use lib.ListN.{length}
+use Prim.Native.Nat.{_≤_}
 use borrow.Author.Needs.{needs}
 use Rattle.calls.proofs.answer_all.Statement.{statement}
 use Rattle.calls.proofs.answer_all.Tie as tie
 
 abbrev Inv-loop : tie.InvT-loop
-Inv-loop numbers₀ plan₀ bytes₀ room₀ turns₀ numbers plan bytes room turns = (length plan ≡ length plan₀) × (length bytes ≡ length bytes₀) × (length room ≡ length room₀)
+Inv-loop numbers₀ plan₀ bytes₀ room₀ turns₀ numbers plan bytes room turns = 0 ≤ turns
 
 abbrev μ-loop : tie.MeasureT-loop
 μ-loop numbers₀ plan₀ bytes₀ room₀ turns₀ numbers plan bytes room turns = turns
@@ -16,15 +15,6 @@ loop-holds c = search needs
 
 next-line-requires : tie.Need-next-line-requires Inv-loop μ-loop
 next-line-requires c κs = search needs
-
-same-length : tie.Need-same-length Inv-loop μ-loop
-same-length c = search needs
-
-same-length-2 : tie.Need-same-length-2 Inv-loop μ-loop
-same-length-2 c = search needs
-
-same-length-3 : tie.Need-same-length-3 Inv-loop μ-loop
-same-length-3 c = search needs
 
 returns : tie.Need-returns Inv-loop μ-loop
 returns c = search needs
@@ -41,15 +31,6 @@ loop-less c = search needs
 loop-again : tie.Need-loop-again Inv-loop μ-loop
 loop-again c = search needs
 
-same-length-4 : tie.Need-same-length-4 Inv-loop μ-loop
-same-length-4 c = search needs
-
-same-length-5 : tie.Need-same-length-5 Inv-loop μ-loop
-same-length-5 c = search needs
-
-same-length-6 : tie.Need-same-length-6 Inv-loop μ-loop
-same-length-6 c = search needs
-
 returns-2 : tie.Need-returns-2 Inv-loop μ-loop
 returns-2 c = search needs
 
@@ -61,15 +42,9 @@ answer-all-spec =
     μ-loop
     loop-holds
     next-line-requires
-    same-length
-    same-length-2
-    same-length-3
     returns
     answer-line-requires
     sub-turns
     loop-less
     loop-again
-    same-length-4
-    same-length-5
-    same-length-6
     returns-2)

@@ -1,12 +1,11 @@
 -- `next_line` is safe and ends.
-use mathlib.Core.Path.{_≡_}
-use lib.ListN.{length}
+use Prim.Native.Nat.{_≤_}
 use borrow.Author.Needs.{needs}
 use Rattle.calls.proofs.input.next_line.Statement.{statement}
 use Rattle.calls.proofs.input.next_line.Tie as tie
 
 abbrev Inv-loop : tie.InvT-loop
-Inv-loop room₀ count₀ turns₀ room count turns = length room ≡ length room₀
+Inv-loop room₀ count₀ turns₀ room count turns = 0 ≤ turns
 
 abbrev μ-loop : tie.MeasureT-loop
 μ-loop room₀ count₀ turns₀ room count turns = turns
@@ -17,14 +16,8 @@ loop-holds c = search needs
 next-byte-requires : tie.Need-next-byte-requires Inv-loop μ-loop
 next-byte-requires c κs = search needs
 
-same-length : tie.Need-same-length Inv-loop μ-loop
-same-length c = search needs
-
 returns : tie.Need-returns Inv-loop μ-loop
 returns c = search needs
-
-same-length-2 : tie.Need-same-length-2 Inv-loop μ-loop
-same-length-2 c = search needs
 
 returns-2 : tie.Need-returns-2 Inv-loop μ-loop
 returns-2 c = search needs
@@ -41,9 +34,6 @@ loop-less c = search needs
 loop-again : tie.Need-loop-again Inv-loop μ-loop
 loop-again c = search needs
 
-same-length-3 : tie.Need-same-length-3 Inv-loop μ-loop
-same-length-3 c = search needs
-
 returns-3 : tie.Need-returns-3 Inv-loop μ-loop
 returns-3 c = search needs
 
@@ -55,13 +45,10 @@ next-line-spec =
     μ-loop
     loop-holds
     next-byte-requires
-    same-length
     returns
-    same-length-2
     returns-2
     put-byte-requires
     sub-turns
     loop-less
     loop-again
-    same-length-3
     returns-3)

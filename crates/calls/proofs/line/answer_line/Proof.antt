@@ -5,14 +5,12 @@ use borrow.Author.Needs.{needs}
 use Rattle.calls.proofs.line.answer_line.Statement.{statement}
 use Rattle.calls.proofs.line.answer_line.Tie as tie
 
--- `answer_line` is safe.
-
 smaller-requires : tie.Need-smaller-requires
 smaller-requires c κs = search needs
 
 slice-aggregate-line : tie.Need-slice-aggregate-line
 slice-aggregate-line c =
-    sym (length-take-le (c .before .smaller .result) (c .before .before .before .before .before .args .room .now) (c .before .smaller .ensures .1))
+    sym (length-take-le (c .before .smaller .result) (c .before .before .before .args .room .now) (c .before .smaller .ensures .1))
 
 request-of-requires : tie.Need-request-of-requires
 request-of-requires c κs = search needs
@@ -25,12 +23,6 @@ checked-requires c κs = search needs
 
 answer-requires : tie.Need-answer-requires
 answer-requires c κs = search needs
-
-same-length : tie.Need-same-length
-same-length c = search needs
-
-same-length-2 : tie.Need-same-length-2
-same-length-2 c = search needs
 
 returns : tie.Need-returns
 returns c = search needs
@@ -45,6 +37,4 @@ answer-line-spec =
     lent-of-requires
     checked-requires
     answer-requires
-    same-length
-    same-length-2
     returns)

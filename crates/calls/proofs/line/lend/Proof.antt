@@ -5,8 +5,6 @@ use borrow.Author.Needs.{needs}
 use Rattle.calls.proofs.line.lend.Statement.{statement}
 use Rattle.calls.proofs.line.lend.Tie as tie
 
--- `lend` is safe.
-
 element-copy-out-smaller : tie.Need-element-copy-out-smaller
 element-copy-out-smaller c = search needs
 

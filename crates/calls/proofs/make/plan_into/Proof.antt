@@ -18,24 +18,6 @@ slice-aggregate-plan c =
 plan-requires : tie.Need-plan-requires
 plan-requires c κs = search needs
 
-slice-aggregate-print-field : tie.Need-slice-aggregate-print-field
-slice-aggregate-print-field c = search needs
-
-cast-print-field : tie.Need-cast-print-field
-cast-print-field c = search needs
-
-print-field-requires : tie.Need-print-field-requires
-print-field-requires c κs = search needs
-
-slice-aggregate-print-answer : tie.Need-slice-aggregate-print-answer
-slice-aggregate-print-answer c = search needs
-
-slice-aggregate-print-answer-2 : tie.Need-slice-aggregate-print-answer-2
-slice-aggregate-print-answer-2 c = search needs
-
-print-answer-requires : tie.Need-print-answer-requires
-print-answer-requires c κs = search needs
-
 same-length : tie.Need-same-length
 same-length c = search needs
 
@@ -53,12 +35,6 @@ plan-into-spec =
     slice-relend-prefix-plan
     slice-aggregate-plan
     plan-requires
-    slice-aggregate-print-field
-    cast-print-field
-    print-field-requires
-    slice-aggregate-print-answer
-    slice-aggregate-print-answer-2
-    print-answer-requires
     same-length
     same-length-2
     returns)
