@@ -100,25 +100,44 @@ pub fn sheet_of(numbers: &[u64; 816947]) -> Sheet {
     }
 }
 
-// Keeps the speeds of a sheet.
-fn keep_speeds(numbers: &mut [u64; 816947], speeds: [Speed; 9]) {
-    let mut place = 0;
-    while place < 9 {
-        let one = speeds[place];
-        numbers[SPEEDS + 2 * place] = one.speed as u64;
-        numbers[SPEEDS + 2 * place + 1] = one.energy as u64;
-        place += 1;
+// One number of a speed, in the order of a sheet's bytes.
+fn number_of_speed(one: Speed, which: usize) -> u32 {
+    if which == 0 {
+        return one.speed;
     }
+    one.energy
 }
 
-// Keeps the jobs of a sheet.
-fn keep_jobs(numbers: &mut [u64; 816947], jobs: [Job; 32]) {
+// One number of a job, likewise.
+fn number_of_job(one: Job, which: usize) -> u32 {
+    if which == 0 {
+        return one.weight;
+    }
+    if which == 1 {
+        return one.size;
+    }
+    one.deadline
+}
+
+// One number of the tables of a sheet: those of all nine speeds and then, two places behind them, of all 32 jobs.
+fn number_in_tables(speeds: [Speed; 9], jobs: [Job; 32], place: usize) -> u32 {
+    if place < 18 {
+        return number_of_speed(speeds[place / 2], place % 2);
+    }
+    if place < 20 {
+        return 0;
+    }
+    if 115 < place {
+        return 0;
+    }
+    number_of_job(jobs[(place - 20) / 3], (place - 20) % 3)
+}
+
+// Keeps the tables of a sheet.
+fn keep_tables(numbers: &mut [u64; 816947], speeds: [Speed; 9], jobs: [Job; 32]) {
     let mut place = 0;
-    while place < 32 {
-        let one = jobs[place];
-        numbers[JOBS + 3 * place] = one.weight as u64;
-        numbers[JOBS + 3 * place + 1] = one.size as u64;
-        numbers[JOBS + 3 * place + 2] = one.deadline as u64;
+    while place < 116 {
+        numbers[SPEEDS + place] = number_in_tables(speeds, jobs, place) as u64;
         place += 1;
     }
 }
@@ -127,12 +146,11 @@ fn keep_jobs(numbers: &mut [u64; 816947], jobs: [Job; 32]) {
 pub fn keep_sheet(numbers: &mut [u64; 816947], sheet: Sheet) {
     let speeds = sheet.speeds;
     let jobs = sheet.jobs;
+    keep_tables(numbers, speeds, jobs);
     numbers[BOUND] = sheet.bound as u64;
     numbers[SPEED_COUNT] = sheet.speed_count as u64;
     numbers[HORIZON] = sheet.horizon as u64;
     numbers[JOB_COUNT] = sheet.job_count as u64;
-    keep_speeds(numbers, speeds);
-    keep_jobs(numbers, jobs);
 }
 
 // The state.
