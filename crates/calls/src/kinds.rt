@@ -1,21 +1,11 @@
 // The kinds of lines, as a table: the words that a line begins with, what must stand behind them, and which places of memory it reaches.
-use crate::memory::BOUND;
-use crate::memory::BYTES_LENT;
-use crate::memory::HORIZON;
-use crate::memory::JOB_COUNT;
-use crate::memory::JOBS;
-use crate::memory::PLAN_LENT;
-use crate::memory::QUEUE;
-use crate::memory::SPEED_COUNT;
-use crate::memory::SPEEDS;
-use crate::memory::VALUES_LENT;
 
 // The words, each as a number: its letters' codes are digits of base 256.
 const READ: u64 = 0x72656164;
 
 const WRITE: u64 = 0x7772697465;
 
-const PLAN: u64 = 0x706c616e;
+pub const PLAN: u64 = 0x706c616e;
 
 const ROW: u64 = 0x726f77;
 
@@ -41,17 +31,17 @@ const SHOW: u64 = 0x73686f77;
 
 const SUM: u64 = 0x73756d;
 
-const BYTES: u64 = 0x6279746573;
+pub const BYTES: u64 = 0x6279746573;
 
 const VALUES: u64 = 0x76616c756573;
 
-const D: u64 = 0x626f756e64;
+const BOUND: u64 = 0x626f756e64;
 
-const K: u64 = 0x737065656473;
+const SPEEDS: u64 = 0x737065656473;
 
-const T: u64 = 0x686f72697a6f6e;
+const HORIZON: u64 = 0x686f72697a6f6e;
 
-const J: u64 = 0x6a6f6273;
+const JOBS: u64 = 0x6a6f6273;
 
 const JOB: u64 = 0x6a6f62;
 
@@ -67,21 +57,14 @@ const MOST: u64 = 4294967295;
 const WIDE: u64 = 18446744073709551615;
 
 // How many places `values`, `plan` and `bytes` have.
-const V: u64 = 816816;
+const OF_VALUES: u64 = 816816;
 
-const P: u64 = 1000000;
+const OF_PLAN: u64 = 1000000;
 
-const B: u64 = 65536;
+const OF_BYTES: u64 = 65536;
 
 // Where a byte in hex must stand, it is the greatest number.
 pub const HEX_BYTE: u64 = 0;
-
-// The buffer whose lent places a line reaches, if it is to be seen whether they are lent.
-pub const IN_VALUES: u64 = 1;
-
-pub const IN_PLAN: u64 = 2;
-
-pub const IN_BYTES: u64 = 3;
 
 // How many places a line reaches: as many as it has numbers; as many as it has behind the first, which is a place; as many as its second
 // number says, and the first is a place; all that are lent; or just so many.
@@ -161,56 +144,57 @@ pub const COMMENT: usize = 40;
 pub const NOTHING: usize = 41;
 
 // The places of memory that rows name.
-const AT_D: u64 = BOUND as u64;
+const AT_BOUND: u64 = crate::memory::BOUND as u64;
 
-const AT_K: u64 = SPEED_COUNT as u64;
+const AT_SPEED_COUNT: u64 = crate::memory::SPEED_COUNT as u64;
 
-const AT_T: u64 = HORIZON as u64;
+const AT_HORIZON: u64 = crate::memory::HORIZON as u64;
 
-const AT_J: u64 = JOB_COUNT as u64;
+const AT_JOB_COUNT: u64 = crate::memory::JOB_COUNT as u64;
 
-const AT_STATE: u64 = QUEUE as u64;
+const AT_STATE: u64 = crate::memory::QUEUE as u64;
 
-const AT_SPEEDS: u64 = SPEEDS as u64;
+const AT_SPEEDS: u64 = crate::memory::SPEEDS as u64;
 
-const AT_JOBS: u64 = JOBS as u64;
+const AT_JOBS: u64 = crate::memory::JOBS as u64;
 
-const LENT_V: u64 = VALUES_LENT as u64;
+const LENT_VALUES: u64 = crate::memory::VALUES_LENT as u64;
 
-const LENT_P: u64 = PLAN_LENT as u64;
+const LENT_PLAN: u64 = crate::memory::PLAN_LENT as u64;
 
-const LENT_B: u64 = BYTES_LENT as u64;
+const LENT_BYTES: u64 = crate::memory::BYTES_LENT as u64;
 
 // A row: the first word and the second, or 0; the least and the greatest count of numbers behind them; the greatest number that may stand
-// first, and later; the first place that it reaches, before a number of the line is added; the buffer; how many places it reaches.
+// first, and later; the first place that it reaches, before a number of the line is added; the buffer, by its word, where the places must
+// be lent ones of it; how many places it reaches.
 const ROWS: [[u64; 9]; 39] = [
-    [SET, D, 1, 1, MOST, 0, AT_D, 0, EACH],
-    [SET, K, 1, 1, MOST, 0, AT_K, 0, EACH],
-    [SET, T, 1, 1, MOST, 0, AT_T, 0, EACH],
-    [SET, J, 1, 1, MOST, 0, AT_J, 0, EACH],
+    [SET, BOUND, 1, 1, MOST, 0, AT_BOUND, 0, EACH],
+    [SET, SPEEDS, 1, 1, MOST, 0, AT_SPEED_COUNT, 0, EACH],
+    [SET, HORIZON, 1, 1, MOST, 0, AT_HORIZON, 0, EACH],
+    [SET, JOBS, 1, 1, MOST, 0, AT_JOB_COUNT, 0, EACH],
     [SET, STATE, 8, 8, MOST, MOST, AT_STATE, 0, EACH],
     [SET, SPEED, 3, 3, 8, MOST, AT_SPEEDS, 0, REST],
     [SET, JOB, 4, 4, 31, MOST, AT_JOBS, 0, REST],
-    [LEND, VALUES, 1, 1, V, 0, LENT_V, 0, EACH],
-    [LEND, PLAN, 1, 1, P, 0, LENT_P, 0, EACH],
-    [LEND, BYTES, 1, 1, B, 0, LENT_B, 0, EACH],
-    [PUT, VALUES, 2, WIDE, V, WIDE, 0, IN_VALUES, REST],
-    [CLEAR, 0, 0, 0, 0, 0, AT_D, 0, ALL_FIELDS],
-    [FILL, VALUES, 1, 1, WIDE, 0, 0, IN_VALUES, ALL_LENT],
-    [FILL, PLAN, 1, 1, 255, 0, 0, IN_PLAN, ALL_LENT],
-    [PUT, PLAN, 2, WIDE, P, 255, 0, IN_PLAN, REST],
-    [FILL, BYTES, 1, 1, HEX_BYTE, 0, 0, IN_BYTES, ALL_LENT],
-    [PUT, BYTES, 2, WIDE, B, HEX_BYTE, 0, IN_BYTES, REST],
+    [LEND, VALUES, 1, 1, OF_VALUES, 0, LENT_VALUES, 0, EACH],
+    [LEND, PLAN, 1, 1, OF_PLAN, 0, LENT_PLAN, 0, EACH],
+    [LEND, BYTES, 1, 1, OF_BYTES, 0, LENT_BYTES, 0, EACH],
+    [PUT, VALUES, 2, WIDE, OF_VALUES, WIDE, 0, VALUES, REST],
+    [CLEAR, 0, 0, 0, 0, 0, AT_BOUND, 0, ALL_FIELDS],
+    [FILL, VALUES, 1, 1, WIDE, 0, 0, VALUES, ALL_LENT],
+    [FILL, PLAN, 1, 1, 255, 0, 0, PLAN, ALL_LENT],
+    [PUT, PLAN, 2, WIDE, OF_PLAN, 255, 0, PLAN, REST],
+    [FILL, BYTES, 1, 1, HEX_BYTE, 0, 0, BYTES, ALL_LENT],
+    [PUT, BYTES, 2, WIDE, OF_BYTES, HEX_BYTE, 0, BYTES, REST],
     [BYTES, 0, 0, WIDE, HEX_BYTE, HEX_BYTE, 0, 0, EACH],
-    [SHOW, VALUES, 2, 2, V, V, 0, IN_VALUES, PART],
-    [SUM, VALUES, 2, 2, V, V, 0, IN_VALUES, PART],
-    [SHOW, K, 0, 0, 0, 0, AT_SPEEDS, 0, ALL_SPEEDS],
-    [SHOW, J, 0, 0, 0, 0, AT_JOBS, 0, ALL_JOBS],
-    [SHOW, PLAN, 2, 2, P, P, 0, IN_PLAN, PART],
-    [SUM, PLAN, 2, 2, P, P, 0, IN_PLAN, PART],
-    [SHOW, BYTES, 2, 2, B, B, 0, IN_BYTES, PART],
-    [SUM, BYTES, 2, 2, B, B, 0, IN_BYTES, PART],
-    [SHOW, TEXT, 2, 2, B, B, 0, IN_BYTES, PART],
+    [SHOW, VALUES, 2, 2, OF_VALUES, OF_VALUES, 0, VALUES, PART],
+    [SUM, VALUES, 2, 2, OF_VALUES, OF_VALUES, 0, VALUES, PART],
+    [SHOW, SPEEDS, 0, 0, 0, 0, AT_SPEEDS, 0, ALL_SPEEDS],
+    [SHOW, JOBS, 0, 0, 0, 0, AT_JOBS, 0, ALL_JOBS],
+    [SHOW, PLAN, 2, 2, OF_PLAN, OF_PLAN, 0, PLAN, PART],
+    [SUM, PLAN, 2, 2, OF_PLAN, OF_PLAN, 0, PLAN, PART],
+    [SHOW, BYTES, 2, 2, OF_BYTES, OF_BYTES, 0, BYTES, PART],
+    [SUM, BYTES, 2, 2, OF_BYTES, OF_BYTES, 0, BYTES, PART],
+    [SHOW, TEXT, 2, 2, OF_BYTES, OF_BYTES, 0, BYTES, PART],
     [SHOW, SHEET, 0, 0, 0, 0, 0, 0, EACH],
     [SHOW, STATE, 0, 0, 0, 0, 0, 0, EACH],
     [READ, 0, 0, 0, 0, 0, 0, 0, EACH],
@@ -240,7 +224,7 @@ pub const BUFFER: usize = 7;
 
 pub const REACH: usize = 8;
 
-// The rows: where the constant is named, the check spells it out.
+// One function names the constant: wherever it is named, the check spells it out.
 fn all_rows() -> [[u64; 9]; 39] {
     ROWS
 }

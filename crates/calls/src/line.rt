@@ -1,12 +1,12 @@
 // One line of a script: what it asks for, and what answers it.
 use crate::kinds::BUFFER;
+use crate::kinds::BYTES;
 use crate::kinds::CALL_ADVANCE;
 use crate::kinds::CALL_READ;
 use crate::kinds::COMMENT;
 use crate::kinds::HEX_BYTE;
-use crate::kinds::IN_BYTES;
-use crate::kinds::IN_PLAN;
 use crate::kinds::NOTHING;
+use crate::kinds::PLAN;
 use crate::kinds::PUT_ALL_BYTES;
 use crate::kinds::cell;
 use crate::make::make;
@@ -130,10 +130,10 @@ fn answer(
 // How many places of the buffer of a kind are lent.
 fn lent_of(numbers: &[u64; 816947], kind: usize) -> u64 {
     let buffer = cell(kind, BUFFER);
-    if buffer == IN_PLAN {
+    if buffer == PLAN {
         return numbers[PLAN_LENT];
     }
-    if buffer == IN_BYTES {
+    if buffer == BYTES {
         return numbers[BYTES_LENT];
     }
     numbers[VALUES_LENT]
