@@ -1,6 +1,6 @@
 // What is ahead of one queue after a slot: the weighted sum over the entries.
 use model::Sheet;
-use rows::Sizes;
+use sheets::Sizes;
 use rows::line_at;
 use value::Value;
 ghost use mathlib.Core.Path.{_≡_};

@@ -16,11 +16,12 @@ use Rattle.model.specs.Queue.{queueCount}
 use Rattle.model.specs.Refusal.{N, valueLimit, sheetRefusal}
 use Rattle.model.proofs.Queues.{listed-bearable}
 use Rattle.model.proofs.Refusal.{Accepted, accepted, N-is}
-use Rattle.value.specs.Fills.{Fills, numberAt}
-use Rattle.value.specs.Width.{Width, readAt, Below}
-use Rattle.value.proofs.Filling.{fewer-fit, read-local, number-local, fills-outside}
-use Rattle.rows.specs.Sizes.{Sized}
-use Rattle.rows.specs.declared.sizes.Sizes.{Sizes}
+use Rattle.buffers.specs.Fills.{Fills, numberAt}
+use Rattle.model.specs.Width.{Width, valueIn}
+use Rattle.value.specs.Values.{Fits}
+use Rattle.buffers.proofs.Filling.{fewer-fit, value-local, number-local, fills-outside}
+use Rattle.sheets.specs.Sizes.{Sized}
+use Rattle.sheets.specs.declared.sizes.Sizes.{Sizes}
 use Rattle.choose.specs.Choice.{byteOf}
 use Rattle.backward.specs.Passes.{valueWith, choiceWith, aheadOf, queueAfter, ValueRow, AheadRow, InPlan, Planned, PlannedFrom}
 use Rattle.backward.proofs.Fits.{scale-fits}
@@ -36,15 +37,15 @@ scale-next w k {all = all} {scale = scale} same e d =
     ap (λ (n : ℕ). some n) (omega (arith, ap (λ (n : ℕ). n * w ^ k) same, pow-succ' w k))
 
 -- and it fits while a slot is left, at any width that has room for number 9's limit
-pub scale-room : (width : Width) → valueLimit < width .limit → (s : Counted) → Accepted s → (k : ℕ) {all : ℕ} {first scale : Option ℕ} →
-    k < s .horizon → all ≡ W s → first ≡ some 0 → scale ≡ some (W s ^ k) → Below (width .limit) (plus first (times all scale))
+pub scale-room : (width : Width) → valueLimit < width .limit → (s : Counted) → Accepted valueLimit s → (k : ℕ) {all : ℕ} {first scale : Option ℕ} →
+    k < s .horizon → all ≡ W s → first ≡ some 0 → scale ≡ some (W s ^ k) → Fits width (plus first (times all scale))
 scale-room width roomy s a k h same e d =
-    subst (λ (r : Option ℕ). Below (width .limit) r) (sym (scale-next (W s) k same e d)) (scale-fits s a width roomy k h)
+    subst (Fits width) (sym (scale-next (W s) k same e d)) (scale-fits s a width roomy k h)
 
 -- where the rows stand: row t from place t times N
 
 -- of an accepted sheet: its queues and its slots are few enough for a place to be worked out
-pub sizes-small : (s : Counted) {sizes : Sizes} → sheetRefusal s ≡ 0 → Sized s sizes → (sizes .queues ≤ 65535) × (s .horizon ≤ 200)
+pub sizes-small : (s : Counted) {sizes : Sizes} → sheetRefusal valueLimit s ≡ 0 → Sized s sizes → (sizes .queues ≤ 65535) × (s .horizon ≤ 200)
 sizes-small s e sized = let a = accepted s e in (omega (arith, sized .queues-is, a .queues-high), a .ranged .horizon-high)
 
 -- a row begins where an earlier one has ended, or behind that
@@ -148,7 +149,7 @@ module _ (width : Width) (s : Counted) (k : ℕ) {left this next row : ℕ} (at 
             let t = slotWith s k in
             let fewer : s .horizon - suc t ≡ left = omega (arith, at .left-low, at .left-is) in
             let place : placeAt s (suc t) i ≡ next + i = omega (arith, this-place s k at, at .next-is, suc-mul t (N s)) in
-            subst (λ (p : ℕ). readAt width values p ≡ valueWith s left (queueAt s i)) place
+            subst (λ (p : ℕ). valueIn width values p ≡ valueWith s left (queueAt s i)) place
             (past .values-right (suc t) i (omega (arith, at .left-low)) (omega (arith, at .left-low)) h ∙
             ap (λ (l : ℕ). valueWith s l (queueAt s i)) fewer);
       }
@@ -176,17 +177,17 @@ module _ (width : Width) (s : Counted) (k : ℕ) {left this next row : ℕ} (at 
       behind : (u i : ℕ) → slotWith s k < u → slotWith s k * N s + N s ≤ placeAt s u i
       behind u i l = omega (arith, row-behind (N s) (slotWith s k) u l)
 
-      value-here : (u i : ℕ) → i < N s → slotWith s k ≡ u → readAt width values′ (placeAt s u i) ≡ valueWith s (s .horizon - u) (queueAt s i)
+      value-here : (u i : ℕ) → i < N s → slotWith s k ≡ u → valueIn width values′ (placeAt s u i) ≡ valueWith s (s .horizon - u) (queueAt s i)
       value-here u i h e =
           let more : suc left ≡ s .horizon - u = omega (arith, at .left-low, at .left-is) in
           let place : this + i ≡ placeAt s u i = omega (arith, here u i e, this-place s k at) in
-          subst (λ (p : ℕ). readAt width values′ p ≡ valueWith s (s .horizon - u) (queueAt s i)) place
+          subst (λ (p : ℕ). valueIn width values′ p ≡ valueWith s (s .horizon - u) (queueAt s i)) place
           (filled .values-filled .filled i h ∙ ap (λ (l : ℕ). valueWith s l (queueAt s i)) more)
 
       value-behind : (u i : ℕ) → u ≤ s .horizon → i < N s → slotWith s k < u →
-          readAt width values′ (placeAt s u i) ≡ valueWith s (s .horizon - u) (queueAt s i)
+          valueIn width values′ (placeAt s u i) ≡ valueWith s (s .horizon - u) (queueAt s i)
       value-behind u i upto h l =
-          fills-outside (width .places) (readAt width) (read-local width) (filled .values-filled) (placeAt s u i)
+          fills-outside (width .places) (valueIn width) (value-local width) (filled .values-filled) (placeAt s u i)
           (inr (omega (arith, behind u i l, this-place s k at))) ∙
           past .values-right u i (omega arith) upto h
 
@@ -207,7 +208,7 @@ module _ (width : Width) (s : Counted) (k : ℕ) {left this next row : ℕ} (at 
 -- the first pass leaves what the second one needs
 pub ahead-stands : (width : Width) (s : Counted) (k after : ℕ) {ahead₀ ahead : List ℕ} → after ≡ queueCount (M s) (pred (s .bound)) →
     after * width .places ≤ length ahead₀ →
-    Fills (width .places) (readAt width) (λ i. aheadOf s k (queueAfter s i)) 0 after ahead₀ ahead → AheadRow width s k ahead
+    Fills (width .places) (valueIn width) (λ i. aheadOf s k (queueAfter s i)) 0 after ahead₀ ahead → AheadRow width s k ahead
 ahead-stands width s k after e room filled =
     record {
       room = fewer-fit width {m = after} (omega arith) (omega (arith, filled .same-length));
@@ -233,7 +234,7 @@ module _ (width : Width) (s : Counted) (queues from : ℕ) (e : queues ≡ N s) 
   pub end-room : (values : List ℕ) → valuesNeeded s * width .places ≤ length values → (from + queues) * width .places ≤ length values
   end-room values room = fewer-fit width end-within room
 
-  module _ {values₀ values : List ℕ} (filled : Fills (width .places) (readAt width) (λ i. some 0) from queues values₀ values) where
+  module _ {values₀ values : List ℕ} (filled : Fills (width .places) (valueIn width) (λ i. some 0) from queues values₀ values) where
     -- once it stands the lent memory is planned as far as no slot
     pub planned-none : (plan : List ℕ) → PlannedFrom width s 0 values plan values plan
     planned-none plan =
@@ -246,11 +247,11 @@ module _ (width : Width) (s : Counted) (queues from : ℕ) (e : queues ≡ N s) 
           plan-beyond = λ p h. refl;
         }
       where
-        last : (t i : ℕ) → t ≡ s .horizon → i < N s → readAt width values (placeAt s t i) ≡ valueWith s (s .horizon - t) (queueAt s i)
+        last : (t i : ℕ) → t ≡ s .horizon → i < N s → valueIn width values (placeAt s t i) ≡ valueWith s (s .horizon - t) (queueAt s i)
         last t i here h =
             let place : from + i ≡ placeAt s t i = omega (arith, end-place, ap (λ (x : ℕ). x * N s) here) in
             let none : 0 ≡ s .horizon - t = omega arith in
-            subst (λ (p : ℕ). readAt width values p ≡ valueWith s (s .horizon - t) (queueAt s i)) place
+            subst (λ (p : ℕ). valueIn width values p ≡ valueWith s (s .horizon - t) (queueAt s i)) place
             (filled .filled i (omega arith) ∙ sym (row-last s i h) ∙ ap (λ (k : ℕ). valueWith s k (queueAt s i)) none)
 
     -- what is planned from there on is planned from before it was filled on

@@ -13,13 +13,13 @@ use Rattle.model.specs.Queue.{Queue, bearable}
 use Rattle.model.specs.Refusal.{valueLimit}
 use Rattle.laws.proofs.Recursion as recursion
 use Rattle.model.proofs.Refusal.{Accepted, accepted, fields-right, N-is}
-use Rattle.value.specs.Fills.{Fills}
-use Rattle.value.specs.Width.{Width, readAt}
-use Rattle.value.proofs.Filling.{fills-same}
+use Rattle.buffers.specs.Fills.{Fills}
+use Rattle.model.specs.Width.{Width, valueIn}
+use Rattle.buffers.proofs.Filling.{fills-same}
 use Rattle.rows.specs.Rows.{afterWith, Row, RowOf}
-use Rattle.rows.specs.Sizes.{Sized}
-use Rattle.rows.specs.declared.sizes.Sizes.{Sizes}
-use Rattle.rows.proofs.Measures.{sized-same, measured}
+use Rattle.sheets.specs.Sizes.{Sized}
+use Rattle.sheets.specs.declared.sizes.Sizes.{Sizes}
+use Rattle.sheets.proofs.Measures.{sized-same, measured}
 use Rattle.entry_lanes.specs.Lanes.{EntryTable}
 use Rattle.ahead.specs.Pass.{Given, sumLeft}
 use Rattle.ahead.proofs.AnyRow.{given-for, left-for}
@@ -54,7 +54,7 @@ module _ (s : Counted) where
 
 module _ (width : Width) (roomy : valueLimit < width .limit) {counts : List ℕ} {s : Counted} {sizes : Sizes} {left : ℕ} {scale : Option ℕ}
     (ready : Ready counts s sizes left scale) {next : ℕ} {values : List ℕ} (row : ValueRow width s left next values) where
-  abbrev is-accepted : Accepted s
+  abbrev is-accepted : Accepted valueLimit s
   is-accepted = accepted s (ready .prepared .accepted)
 
   abbrev sized : Sized s sizes
@@ -72,13 +72,13 @@ module _ (width : Width) (roomy : valueLimit < width .limit) {counts : List ℕ}
   pub first-given : {lanes : List ℕ} → EntryTable (sizes .largest) (sizes .bound) s lanes → Given width s sizes lanes next values
   first-given table =
       given-for width s (measured s sizes is-accepted sized) (valueWith s left) value-row (most s left)
-      (fields-right s (ready .prepared .accepted)) table (value-upto s left)
+      (fields-right valueLimit s (ready .prepared .accepted)) table (value-upto s left)
       (ahead-fits s is-accepted width roomy left (ready .in-plan .left-low))
 
   pub first-left : {ahead₀ ahead : List ℕ} →
-      Fills (width .places) (readAt width) (λ i. sumLeft width s sizes next values i (s .jobCount)) 0 (sizes .after) ahead₀ ahead →
-      Fills (width .places) (readAt width) (λ i. aheadOf s left (queueAfter s i)) 0 (sizes .after) ahead₀ ahead
+      Fills (width .places) (valueIn width) (λ i. sumLeft width s sizes next values i (s .jobCount)) 0 (sizes .after) ahead₀ ahead →
+      Fills (width .places) (valueIn width) (λ i. aheadOf s left (queueAfter s i)) 0 (sizes .after) ahead₀ ahead
   unfolding aheadTo
   first-left fill =
-      fills-same (width .places) (readAt width) (λ i h. sized-same sized (λ m D. aheadOf s left (afterWith m D i)))
+      fills-same (width .places) (valueIn width) (λ i h. sized-same sized (λ m D. aheadOf s left (afterWith m D i)))
       (left-for width s (measured s sizes is-accepted sized) (valueWith s left) value-row fill)

@@ -12,7 +12,7 @@ use Rattle.model.specs.Refusal.{valueLimit}
 use Rattle.model.proofs.Counted.{energy-of-upto, energy-of-place, on-sheet-at}
 use Rattle.laws.proofs.Recursion.{value-most}
 use Rattle.model.proofs.Refusal.{Accepted, G-covers, W-low, power-fits}
-use Rattle.value.specs.Width.{Width}
+use Rattle.model.specs.Width.{Width}
 use Rattle.ahead.proofs.AnyRow.{sums-upto}
 use Rattle.backward.specs.Passes.{valueWith, aheadTo, aheadOf}
 
@@ -32,7 +32,7 @@ module _ (s : Counted) where
   ahead-upto k v = sums-upto s (valueWith s k) (most k) (value-upto k) v (s .jobCount) (le-refl (s .jobCount))
 
 -- at any width that has room for number 9's limit
-module _ (s : Counted) (a : Accepted s) (width : Width) (roomy : valueLimit < width .limit) (k : ℕ) (h : k < s .horizon) where
+module _ (s : Counted) (a : Accepted valueLimit s) (width : Width) (roomy : valueLimit < width .limit) (k : ℕ) (h : k < s .horizon) where
   -- what k + 1 slots of the sheet can cost is below the limit
   most-fits : most s (suc k) < width .limit
   most-fits =

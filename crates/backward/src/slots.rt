@@ -1,7 +1,7 @@
 // All the rows: the end row, and then slot after slot from the last one back, each from the row of the next.
 use limits::weights;
 use model::Sheet;
-use rows::Sizes;
+use sheets::Sizes;
 use sheets::place;
 use value::Value;
 ghost use mathlib.Core.Path.{_≡_};
@@ -10,9 +10,9 @@ ghost use Prim.Native.Nat.{suc, _+_, _*_, _≤_, _<_};
 ghost use lib.ListN.{length};
 ghost use Rattle.model.specs.Counted.{counted};
 ghost use Rattle.model.specs.Plan.{valuesNeeded, planNeeded};
-ghost use Rattle.value.specs.Fills.{Fills};
+ghost use Rattle.buffers.specs.Fills.{Fills};
 ghost use Rattle.value.specs.Narrow.{width, valueOf};
-ghost use Rattle.value.specs.Width.{readAt};
+ghost use Rattle.model.specs.Width.{valueIn};
 ghost use Rattle.entry_lanes.specs.Lanes.{EntryTable};
 ghost use Rattle.speed_lanes.specs.Lanes.{SpeedTable};
 ghost use Rattle.backward.specs.Passes.{aheadOf, queueAfter, ValueRow, AheadRow, Prepared, Ready, Planned, PlannedFrom};
@@ -30,7 +30,7 @@ pub struct Slot {
 // The end row: after the last slot remaining work costs nothing.
 fn fill_end(queues: usize, from: usize, values: &mut [u64])
     requires { ⌜ (from + queues) * width .places ≤ length (now values) ⌝ }
-    ensures { λ r. ⌜ Fills (width .places) (readAt width) (λ i. some 0) from queues (now (values .entry)) (now (values .exit)) ⌝ }
+    ensures { λ r. ⌜ Fills (width .places) (valueIn width) (λ i. some 0) from queues (now (values .entry)) (now (values .exit)) ⌝ }
 {
     let mut number = 0;
     while number < queues {
@@ -69,7 +69,7 @@ fn fill_ahead(
     requires { ⌜ Ready (now counts) (counted sheet) sizes (slot .left) (valueOf (slot .scale)) ×
         ValueRow width (counted sheet) (slot .left) (slot .next) (now values) × (sizes .after * width .places ≤ length (now ahead)) ⌝ }
     requires lanes { ⌜ EntryTable (sizes .largest) (sizes .bound) (counted sheet) (now lanes) ⌝ }
-    ensures { λ r. ⌜ Fills (width .places) (readAt width) (λ i. aheadOf (counted sheet) (slot .left) (queueAfter (counted sheet) i))
+    ensures { λ r. ⌜ Fills (width .places) (valueIn width) (λ i. aheadOf (counted sheet) (slot .left) (queueAfter (counted sheet) i))
         0 (sizes .after) (now (ahead .entry)) (now (ahead .exit)) ⌝ }
 {
     ahead::fill(sheet, sizes, lanes, slot.next, values, ahead);

@@ -1,7 +1,7 @@
 // The least over the speeds in one queue.
 use limits::larger;
 use model::Sheet;
-use rows::Sizes;
+use sheets::Sizes;
 use rows::line_at;
 use value::Value;
 ghost use mathlib.Core.Path.{_≡_};

@@ -10,12 +10,12 @@ use Rattle.model.proofs.Refusal.{accepted, N-low}
 use Rattle.laws.proofs.Rooms.{row-accepted}
 use Rattle.model.specs.Counted.{Counted}
 use Rattle.model.specs.Plan.{PlanAnswer, LeavesBy, Filled, valueIn, placeAt, valuesNeeded, planRefusal, rowRefusal}
-use Rattle.model.specs.Refusal.{N, sheetRefusal}
-use Rattle.value.specs.Width.{Width}
+use Rattle.model.specs.Refusal.{N, sheetRefusal, valueLimit}
+use Rattle.model.specs.Width.{Width}
 use Rattle.planner.specs.Calls.{IsPlan}
-use Rattle.rows.specs.Sizes.{Sized}
-use Rattle.rows.specs.declared.sizes.Sizes.{Sizes}
-use Rattle.value.proofs.Filling.{fewer-fit}
+use Rattle.sheets.specs.Sizes.{Sized}
+use Rattle.sheets.specs.declared.sizes.Sizes.{Sizes}
+use Rattle.buffers.proofs.Filling.{fewer-fit}
 
 module _ (s : Counted) where
   -- what a refused plan leaves: all as it was, and it answers the number and zeros
@@ -30,7 +30,7 @@ module _ (s : Counted) where
       go : (n : ℕ) → (n ≡ 0 → ⊥) → number ≡ n → LeavesBy n valueIn s values plan values plan answer
       go zero h q = absurd (h refl)
       go (suc n) h q =
-          record { values-kept = refl; plan-kept = refl; answer = λ i. record { number = q i; queues = queues-is i; least = least-is i } }
+          record { values-same = refl; plan-same = refl; answer = λ i. record { number = q i; queues = queues-is i; least = least-is i } }
 
   -- what a plan that is not refused leaves: both tables filled
   pub filled-plan : {values₀ plan₀ values plan : List ℕ} {number queues least : ℕ} → planRefusal s (length values₀) (length plan₀) ≡ 0 →
@@ -61,7 +61,7 @@ module _ (s : Counted) where
       (omega (arith, suc-mul t (N s), mul-le-mul-right (N s) h, row-accepted s room e .1))
 
 -- at any width the first value of all is within values that are as long as those that were lent
-pub first-within : (width : Width) (s : Counted) {sizes : Sizes} → Sized s sizes → sheetRefusal s ≡ 0 → {lent room place : ℕ} →
+pub first-within : (width : Width) (s : Counted) {sizes : Sizes} → Sized s sizes → sheetRefusal valueLimit s ≡ 0 → {lent room place : ℕ} →
     valuesNeeded s * width .places ≤ lent → room ≡ lent → place ≡ 0 * sizes .queues + 0 → suc place * width .places ≤ room
 first-within width s sized e fit same here =
     let some : 1 ≤ valuesNeeded s = omega (arith, N-low s (accepted s e .ranged), suc-mul (s .horizon) (N s)) in

@@ -17,10 +17,10 @@ use Rattle.model.proofs.Refusal.{Accepted, speeds-rise, N-is, N-low}
 use Rattle.model.specs.Counted.{Counted, weightAt, M}
 use Rattle.model.specs.Plan.{processOf, IsValueAt, IsPlanByte, valueIn, queueAt, placeAt, valuesNeeded, planNeeded, PlanAnswer, Decided, FromEmpty, Filled, number12}
 use Rattle.model.specs.Queue.{Queue, emptyQueue, bearable}
-use Rattle.model.specs.Refusal.{N}
+use Rattle.model.specs.Refusal.{N, valueLimit}
 use Rattle.value.proofs.OnePlace.{read-is}
 use Rattle.value.specs.Narrow as narrow
-use Rattle.value.specs.Width.{Width, readAt}
+use Rattle.model.specs.Width.{Width, valueIn}
 use Rattle.choose.specs.Choice.{byteOf}
 use Rattle.backward.specs.Passes.{valueWith, choiceWith, PlannedFrom}
 use Rattle.backward.proofs.FirstPass.{value-chosen}
@@ -31,7 +31,7 @@ drop-same n l m long same =
     ext-getD 0 (drop n l) (drop n m) (length-drop n l ∙ ap (λ (k : ℕ). k - n) long ∙ sym (length-drop n m))
     (λ i h. getD-drop n l i 0 ∙ same (n + i) (omega arith) ∙ sym (getD-drop n m i 0))
 
-module _ (s : Counted) (a : Accepted s) where
+module _ (s : Counted) (a : Accepted valueLimit s) where
   -- the recursion's value is the least scaled energy of a good way, or none where no way is good
   pub value-least : (k : ℕ) (w : Queue) → IsValue (processOf s) (s .jobCount) (weightAt s) k w (valueWith s k w)
   unfolding valueWith
@@ -66,10 +66,10 @@ module _ (s : Counted) (a : Accepted s) where
       go (chosen speed v) e = first-right (s .horizon - t) w speed v (omega arith) b e
 
 -- memory that is planned from the horizon back to slot 0, at any width
-module _ (width : Width) (s : Counted) (a : Accepted s) {values₀ plan₀ values plan : List ℕ}
+module _ (width : Width) (s : Counted) (a : Accepted valueLimit s) {values₀ plan₀ values plan : List ℕ}
     (p : PlannedFrom width s (s .horizon) values₀ plan₀ values plan) where
   -- at each place of a slot and a queue stand its value and its plan byte
-  pub decided : (t i : ℕ) → t < s .horizon → i < N s → Decided s t i (readAt width values (placeAt s t i)) (getD plan (placeAt s t i) 0)
+  pub decided : (t i : ℕ) → t < s .horizon → i < N s → Decided s t i (valueIn width values (placeAt s t i)) (getD plan (placeAt s t i) 0)
   decided t i h k =
       record {
         r = valueWith s (s .horizon - t) (queueAt s i);
@@ -82,24 +82,24 @@ module _ (width : Width) (s : Counted) (a : Accepted s) {values₀ plan₀ value
       }
 
   -- at each place of the values stands the value of its slot and queue, the end row too
-  pub valued : (t i : ℕ) → t ≤ s .horizon → i < N s → IsValueAt s t (queueAt s i) (readAt width values (placeAt s t i))
+  pub valued : (t i : ℕ) → t ≤ s .horizon → i < N s → IsValueAt s t (queueAt s i) (valueIn width values (placeAt s t i))
   valued t i h k =
       subst (λ (r : Option ℕ). IsValueAt s t (queueAt s i) r) (sym (p .values-right t i (omega arith) h k))
       (value-least s a (s .horizon - t) (queueAt s i))
 
   -- the first value of all is the empty queue's at slot 0
-  empty-value : IsValueAt s 0 (emptyQueue (s .bound)) (readAt width values (placeAt s 0 0))
+  empty-value : IsValueAt s 0 (emptyQueue (s .bound)) (valueIn width values (placeAt s 0 0))
   empty-value =
-      subst (λ (w : Queue). IsValueAt s 0 w (readAt width values (placeAt s 0 0))) (empty-first (M s) (s .bound))
+      subst (λ (w : Queue). IsValueAt s 0 w (valueIn width values (placeAt s 0 0))) (empty-first (M s) (s .bound))
       (valued 0 0 (omega arith) (omega (arith, N-low s (a .ranged))))
 
   -- so that the answer is right where its number and its least energy are those of the first value
-  pub from-empty : (answer : PlanAnswer) {place : ℕ} {r : Option ℕ} → place ≡ placeAt s 0 0 → r ≡ readAt width values place →
+  pub from-empty : (answer : PlanAnswer) {place : ℕ} {r : Option ℕ} → place ≡ placeAt s 0 0 → r ≡ valueIn width values place →
       answer .number ≡ number12 r → answer .least ≡ Option·getD r 0 → FromEmpty s answer
   from-empty answer {r = r} first e number least =
       record {
         r = r;
-        is-value = subst (λ (q : Option ℕ). IsValueAt s 0 (emptyQueue (s .bound)) q) (sym (e ∙ ap (readAt width values) first)) empty-value;
+        is-value = subst (λ (q : Option ℕ). IsValueAt s 0 (emptyQueue (s .bound)) q) (sym (e ∙ ap (valueIn width values) first)) empty-value;
         number = number;
         least = least;
       }
@@ -107,13 +107,13 @@ module _ (width : Width) (s : Counted) (a : Accepted s) {values₀ plan₀ value
 -- at the width of document 01
 
 -- the planner reads a value as the model does: the code of none is the same
-pub read-value-in : (l : List ℕ) (i : ℕ) → readAt narrow.width l i ≡ valueIn l i
+pub read-value-in : (l : List ℕ) (i : ℕ) → valueIn narrow.width l i ≡ valueIn l i
 read-value-in l i = read-is l i
 
 -- such memory is filled as the model says
-pub memory-filled : (s : Counted) → Accepted s → {values₀ plan₀ values plan : List ℕ} →
+pub memory-filled : (s : Counted) → Accepted valueLimit s → {values₀ plan₀ values plan : List ℕ} →
     PlannedFrom narrow.width s (s .horizon) values₀ plan₀ values plan → (answer : PlanAnswer) {place : ℕ} {r : Option ℕ} →
-    place ≡ placeAt s 0 0 → r ≡ readAt narrow.width values place → answer .queues ≡ N s → answer .number ≡ number12 r → answer .least ≡
+    place ≡ placeAt s 0 0 → r ≡ valueIn narrow.width values place → answer .queues ≡ N s → answer .number ≡ number12 r → answer .least ≡
     Option·getD r 0 →
     Filled valueIn s values₀ plan₀ values plan answer
 memory-filled s a {values₀ = values₀} {plan₀ = plan₀} {values = values} {plan = plan} p answer first e queues number least =

@@ -2,7 +2,7 @@
 use backward::fill;
 use counts::table;
 use model::Sheet;
-use rows::sizes_of;
+use sheets::sizes_of;
 use sheets::place;
 use sheets::row_refusal;
 use sheets::sheet_refusal;

@@ -9,7 +9,7 @@ use Rattle.model.proofs.Tests.{then-stops}
 use Rattle.laws.proofs.Written.{written-refused}
 use Rattle.model.specs.Bytes.{sheetBytes, writeRefusal, writeLines, write}
 use Rattle.model.specs.Counted.{Counted}
-use Rattle.model.specs.Refusal.{sheetRefusal}
+use Rattle.model.specs.Refusal.{sheetRefusal, valueLimit}
 use Rattle.buffers.proofs.Laid.{laid-written}
 use Rattle.writer.specs.Calls.{IsWritten}
 use Rattle.buffers.specs.Laid.{Laid}
@@ -21,18 +21,18 @@ unfolding write
 refused-with s buffer number e some = rw e (written-refused (sheetBytes s) buffer some)
 
 -- the sheet is refused
-pub write-refused : (s : Counted) (buffer : List ℕ) {number : ℕ} → number ≡ sheetRefusal s → (number ≡ 0 → ⊥) →
+pub write-refused : (s : Counted) (buffer : List ℕ) {number : ℕ} → number ≡ sheetRefusal valueLimit s → (number ≡ 0 → ⊥) →
     IsWritten s buffer number 0 buffer
 unfolding writeLines
 write-refused s buffer {number = number} e some = refused-with s buffer number (rw (← e) (then-stops number _ some)) some
 
 -- the buffer is too short
-pub refused-short : (s : Counted) (buffer : List ℕ) → sheetRefusal s ≡ 0 → length buffer < length (sheetBytes s) →
+pub refused-short : (s : Counted) (buffer : List ℕ) → sheetRefusal valueLimit s ≡ 0 → length buffer < length (sheetBytes s) →
     IsWritten s buffer 11 0 buffer
 refused-short s buffer e short = refused-with s buffer 11 (write-short s (length buffer) e short) (eqb-false 11 0 refl)
 
 -- nothing is refused: the sheet's bytes, laid from the first place on, are what is written
-pub write-done : (s : Counted) {before after : List ℕ} {next : ℕ} → sheetRefusal s ≡ 0 → length (sheetBytes s) ≤ length before →
+pub write-done : (s : Counted) {before after : List ℕ} {next : ℕ} → sheetRefusal valueLimit s ≡ 0 → length (sheetBytes s) ≤ length before →
     Laid 0 (sheetBytes s) before after next → IsWritten s before 0 next after
 unfolding write
 write-done s {before = before} e room laid = laid-written (writeRefusal s (length before)) (write-fits s (length before) e room) laid

@@ -4,6 +4,7 @@ use native.Mathlib.Omega.{arith}
 use borrow.Author.Needs.{needs}
 use Rattle.model.specs.Counted.{counted}
 use Rattle.model.proofs.Refusal.{fields-right}
+use Rattle.model.specs.Refusal.{valueLimit}
 use Rattle.writer.proofs.Outcomes.{write-refused, refused-short, write-done}
 use Rattle.writer.proofs.write.Statement.{statement}
 use Rattle.writer.proofs.write.Tie as tie
@@ -22,7 +23,7 @@ returns c =
 sheet-length-requires : tie.Need-sheet-length-requires
 sheet-length-requires c κs =
     let a = c .before .before .before .before .before .args in
-    fields-right (counted (a .sheet)) (sym (c .before .sheet-refusal .ensures) ∙ c .if1 .left)
+    fields-right valueLimit (counted (a .sheet)) (sym (c .before .sheet-refusal .ensures) ∙ c .if1 .left)
 
 returns-2 : tie.Need-returns-2
 returns-2 c =
@@ -34,7 +35,7 @@ put-sheet-requires : tie.Need-put-sheet-requires
 put-sheet-requires c κs =
     let a = c .before .before .before .before .before .before .before .before .args in
     let accepted = sym (c .before .before .before .before .sheet-refusal .ensures) ∙ c .before .before .before .if1 .left in
-    (fields-right (counted (a .sheet)) accepted, omega (arith, c .before .if2 .left, c .before .before .sheet-length .ensures))
+    (fields-right valueLimit (counted (a .sheet)) accepted, omega (arith, c .before .if2 .left, c .before .before .sheet-length .ensures))
 
 same-length : tie.Need-same-length
 same-length c = search needs

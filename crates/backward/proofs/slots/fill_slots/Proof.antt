@@ -9,8 +9,10 @@ use native.Mathlib.Omega.{arith}
 use lib.ListN.{length}
 use Rattle.model.specs.Counted.{Counted, counted, W}
 use Rattle.model.proofs.Refusal.{accepted, fields-right}
+use Rattle.model.specs.Refusal.{valueLimit}
 use Rattle.value.specs.Narrow.{width, valueOf}
-use Rattle.rows.proofs.Measures.{measured, after-room}
+use Rattle.sheets.proofs.Measures.{measured}
+use Rattle.rows.proofs.Room.{after-room}
 use Rattle.backward.specs.Passes.{PlannedFrom}
 use Rattle.backward.proofs.Backward.{scale-next, scale-room, sizes-small, Stands, slot-stands, slot-in-plan, values-room, plan-room, next-stands, planned-more}
 use Rattle.backward.proofs.slots.fill_slots.Statement.{statement}
@@ -31,7 +33,7 @@ sheetIn turn = counted (turn .before .before .before .before .before .before .be
 weights-requires : tie.Need-weights-requires Inv-loop μ-loop
 weights-requires c κs =
     let start = c .before .before .before .before in
-    fields-right (counted (start .args .sheet)) (start .pre .0 .0 .accepted)
+    fields-right valueLimit (counted (start .args .sheet)) (start .pre .0 .0 .accepted)
 
 of-requires : tie.Need-of-requires Inv-loop μ-loop
 of-requires c κs = tt

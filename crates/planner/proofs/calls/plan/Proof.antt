@@ -8,7 +8,7 @@ use Rattle.model.proofs.Refusal.{accepted}
 use Rattle.laws.proofs.Rooms.{plan-accepted}
 use Rattle.model.specs.Counted.{Counted, counted}
 use Rattle.model.specs.Plan.{planRefusal, valuesNeeded}
-use Rattle.model.specs.Refusal.{sheetRefusal}
+use Rattle.model.specs.Refusal.{sheetRefusal, valueLimit}
 use Rattle.value.specs.Narrow.{width}
 use Rattle.backward.proofs.Backward.{sizes-small}
 use Rattle.planner.proofs.Outcomes.{refused-plan, filled-plan, place-is, first-within}
@@ -27,7 +27,7 @@ passed : (c : tie.Else1) →
 passed c = sym (c .before .plan-refusal .ensures) ∙ c .if1 .left
 
 -- so that the sheet is accepted
-sheet-right : (c : tie.Else1) → sheetRefusal (sheet c) ≡ 0
+sheet-right : (c : tie.Else1) → sheetRefusal valueLimit (sheet c) ≡ 0
 sheet-right c = plan-accepted (sheet c) _ _ (passed c) .0
 
 -- the values have room, at one place each

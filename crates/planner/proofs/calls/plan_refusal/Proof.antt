@@ -6,7 +6,7 @@ use borrow.Author.Needs.{needs}
 use borrow.Author.Tests.{leb-true, leb-false}
 use Rattle.laws.proofs.Rooms.{plan-refused, plan-short-values, plan-short-plan, plan-fits}
 use Rattle.model.specs.Counted.{counted}
-use Rattle.model.specs.Refusal.{sheetRefusal}
+use Rattle.model.specs.Refusal.{sheetRefusal, valueLimit}
 use Rattle.ranges.proofs.Answers.{passed-by, failed-by}
 use Rattle.value.specs.Narrow.{width}
 use Rattle.backward.proofs.Backward.{sizes-small}
@@ -15,7 +15,7 @@ use Rattle.planner.proofs.calls.plan_refusal.Statement.{statement}
 use Rattle.planner.proofs.calls.plan_refusal.Tie as tie
 
 -- behind the first test the sheet is accepted
-passed : (c : tie.Else1) → sheetRefusal (counted (c .before .before .args .sheet)) ≡ 0
+passed : (c : tie.Else1) → sheetRefusal valueLimit (counted (c .before .before .args .sheet)) ≡ 0
 passed c = sym (c .before .sheet-refusal .ensures) ∙ c .if1 .left
 
 -- so that its queues and its slots are few

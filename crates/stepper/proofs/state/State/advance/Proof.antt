@@ -8,7 +8,7 @@ use Rattle.model.proofs.Refusal.{fields-right}
 use Rattle.laws.proofs.Rooms.{row-accepted}
 use Rattle.laws.proofs.Stepper.{speed-by, speed-accepted, byte-on-sheet, advance-by, advance-refusal-speed, advance-refusal-15}
 use Rattle.model.specs.Counted.{counted, onSheet}
-use Rattle.model.specs.Refusal.{fieldsRefusal}
+use Rattle.model.specs.Refusal.{fieldsRefusal, valueLimit}
 use Rattle.model.specs.Stepper.{Stepped, Told, planByte, speedRefusal, isEntry, moved}
 use Rattle.ranges.proofs.Answers.{passed-by, failed-by}
 use Rattle.lookups.proofs.Looking.{entry-small}
@@ -37,7 +37,7 @@ fields : (c : tie.Else1) → fieldsRefusal (counted (c .before .before .before .
 fields c =
     let a = c .before .before .before .before .args in
     let s = counted (a .sheet) in
-    fields-right s (row-accepted s _ (speed-accepted s (a .plan .now) (stateOf (a .self)) (passed c) .0) .0)
+    fields-right valueLimit s (row-accepted s _ (speed-accepted s (a .plan .now) (stateOf (a .self)) (passed c) .0) .0)
 
 -- and the speed told is the plan's
 byte : (c : tie.Else1) →

@@ -12,7 +12,7 @@ use Rattle.laws.proofs.Stepper.{state-right, speed-refusal-row, speed-refusal-1
 use Rattle.model.proofs.Tests.{check-true, check-false}
 use Rattle.model.specs.Counted.{counted}
 use Rattle.model.specs.Plan.{rowRefusal}
-use Rattle.model.specs.Refusal.{fieldsRefusal}
+use Rattle.model.specs.Refusal.{fieldsRefusal, valueLimit}
 use Rattle.model.specs.Stepper.{stateRight, byteRight, planByte, speedRefusal}
 use Rattle.model.specs.Tests.{check}
 use Rattle.ranges.proofs.Answers.{passed-by, failed-by}
@@ -31,7 +31,7 @@ passed c = sym (c .before .row-refusal .ensures) ∙ c .if1 .left
 fields : (c : tie.Else1) → fieldsRefusal (counted (c .before .before .before .before .before .args .sheet)) ≡ 0
 fields c =
     let s = counted (c .before .before .before .before .before .args .sheet) in
-    fields-right s (row-accepted s _ (passed c) .0)
+    fields-right valueLimit s (row-accepted s _ (passed c) .0)
 
 -- behind the second one the state is right
 right : (c : tie.Else2) →

@@ -4,7 +4,7 @@ use borrow.Author.Needs.{needs}
 use Rattle.model.proofs.Refusal.{fields-right}
 use Rattle.laws.proofs.Stepper.{start-by, start-refusal-sheet, start-refusal-13, start-refusal-0}
 use Rattle.model.specs.Counted.{counted}
-use Rattle.model.specs.Refusal.{sheetRefusal}
+use Rattle.model.specs.Refusal.{sheetRefusal, valueLimit}
 use Rattle.model.specs.Stepper.{zeroState}
 use Rattle.ranges.proofs.Answers.{passed-by, failed-by}
 use Rattle.stepper.proofs.Outcomes.{stepped-as, refused-gives}
@@ -13,7 +13,7 @@ use Rattle.stepper.proofs.state.State.start.Tie as tie
 use Rattle.stepper.specs.Calls.{stateOf}
 
 -- behind the first test the sheet is accepted
-passed : (c : tie.Else1) → sheetRefusal (counted (c .before .before .before .before .args .sheet)) ≡ 0
+passed : (c : tie.Else1) → sheetRefusal valueLimit (counted (c .before .before .before .before .args .sheet)) ≡ 0
 passed c = sym (c .before .sheet-refusal .ensures) ∙ c .if1 .left
 
 table-requires : tie.Need-table-requires
@@ -35,7 +35,7 @@ returns c =
     (c .zero-state .ensures ∙ refused-gives (record { queue = a .self .queue; slot = 0; energy = 0 }) zeroState some)
 
 queue-right-requires : tie.Need-queue-right-requires
-queue-right-requires c κs = fields-right (counted (c .before .before .before .before .args .sheet)) (passed c)
+queue-right-requires c κs = fields-right valueLimit (counted (c .before .before .before .before .args .sheet)) (passed c)
 
 zero-state-requires-2 : tie.Need-zero-state-requires-2
 zero-state-requires-2 c κs = search needs
