@@ -77,18 +77,18 @@ module _ (width : Width) (s : Counted) {sizes : Sizes} (m : Measured sizes) (f :
       (λ j. row-says width (sizes .largest) (sizes .bound) f next values row (joined s v j)
       (length-arrive v (sizeAt s j) (deadlineAt s j) ∙ after-long i h))
 
-  -- what it is given, where the function's bound times W is below the limit of a value
+  -- what it is given, where the function's bound times W passes no limit of a value
   pub given-for : {lanes : List ℕ} (most : ℕ) → fieldsRefusal s ≡ 0 → EntryTable (sizes .largest) (sizes .bound) s lanes →
-      ((w : Queue) → UptoOr (Unit {0}) (f w) most) → most * W s < width .limit → Given width s sizes lanes next values
+      ((w : Queue) → UptoOr (Unit {0}) (f w) most) → most * W s ≤ width .limit → Given width s sizes lanes next values
   given-for most fields table upto low =
       record {
         fields = fields;
         measured = m;
         table = table;
-        room = subst (λ (n : ℕ). (next + n) * width .places ≤ length values) (sym (m .queues-is)) (row .stands .room);
+        room = subst (λ (n : ℕ). (next + n) * width .places ≤ length values) (sym (m .queues-is)) (row .row .room);
         fits = λ i n h k.
             subst (Fits width) (sym (sums-told i n h))
-            (bound-fits (sumTo s f (afterWith (sizes .largest) (sizes .bound) i) n)
+            (bound-fits width (sumTo s f (afterWith (sizes .largest) (sizes .bound) i) n)
             (sums-upto s f most upto (afterWith (sizes .largest) (sizes .bound) i) n k) low);
       }
 

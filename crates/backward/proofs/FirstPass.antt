@@ -10,7 +10,6 @@ use Rattle.process.specs.Recursion.{only, worth}
 use Rattle.model.specs.Counted.{Counted, M}
 use Rattle.model.specs.Plan.{queueAt}
 use Rattle.model.specs.Queue.{Queue, bearable}
-use Rattle.model.specs.Refusal.{valueLimit}
 use Rattle.laws.proofs.Recursion as recursion
 use Rattle.model.proofs.Refusal.{Accepted, accepted, fields-right, N-is}
 use Rattle.buffers.specs.Fills.{Fills}
@@ -52,9 +51,9 @@ module _ (s : Counted) where
 
 -- what the first pass is given, and what it leaves
 
-module _ (width : Width) (roomy : valueLimit < width .limit) {counts : List ℕ} {s : Counted} {sizes : Sizes} {left : ℕ} {scale : Option ℕ}
-    (ready : Ready counts s sizes left scale) {next : ℕ} {values : List ℕ} (row : ValueRow width s left next values) where
-  abbrev is-accepted : Accepted valueLimit s
+module _ (width : Width) {counts : List ℕ} {s : Counted} {sizes : Sizes} {left : ℕ} {scale : Option ℕ}
+    (ready : Ready width counts s sizes left scale) {next : ℕ} {values : List ℕ} (row : ValueRow width s left next values) where
+  abbrev is-accepted : Accepted (width .limit) s
   is-accepted = accepted s (ready .prepared .accepted)
 
   abbrev sized : Sized s sizes
@@ -65,15 +64,15 @@ module _ (width : Width) (roomy : valueLimit < width .limit) {counts : List ℕ}
   value-row =
       subst (λ (p : ℕ × ℕ). RowOf width (p .0) (p .1) (valueWith s left) next values) (sym (sized-same sized (λ m D. (m, D))))
       (record {
-        stands = subst (λ (n : ℕ). Row width (λ i. valueWith s left (queueAt s i)) next n values) (N-is s) row;
+        row = subst (λ (n : ℕ). Row width (λ i. valueWith s left (queueAt s i)) next n values) (N-is s) row;
         strict = not-bearable-none s left;
       })
 
   pub first-given : {lanes : List ℕ} → EntryTable (sizes .largest) (sizes .bound) s lanes → Given width s sizes lanes next values
   first-given table =
       given-for width s (measured s sizes is-accepted sized) (valueWith s left) value-row (most s left)
-      (fields-right valueLimit s (ready .prepared .accepted)) table (value-upto s left)
-      (ahead-fits s is-accepted width roomy left (ready .in-plan .left-low))
+      (fields-right (width .limit) s (ready .prepared .accepted)) table (value-upto s left)
+      (ahead-fits s is-accepted left (ready .in-plan .left-low))
 
   pub first-left : {ahead₀ ahead : List ℕ} →
       Fills (width .places) (valueIn width) (λ i. sumLeft width s sizes next values i (s .jobCount)) 0 (sizes .after) ahead₀ ahead →

@@ -74,22 +74,22 @@ module _ (width : Width) (s : Counted) {sizes : Sizes} (m : Measured sizes) (g :
       leastIn width (sizes .largest) (sizes .bound) s ahead scale w ≡ leastBy g s scale w
   least-told scale n h = least-same (speedAt s) _ _ (s .speedCount) (λ j l. costs-told scale n h j)
 
-  -- what the pass is given, where the function's bound and each scaled energy together are below the limit of a value
+  -- what the pass is given, where the function's bound and each scaled energy together pass no limit of a value
   pub given-for : {lanes : List ℕ} (most : ℕ) {scale : Option ℕ} (unit : ℕ) → fieldsRefusal s ≡ 0 →
       SpeedTable (sizes .largest) (sizes .bound) s lanes → ((v : Queue) → UptoOr (Unit {0}) (g v) most) → scale ≡ some unit →
-      ((j : ℕ) → j < s .speedCount → most + energyAt s j * unit < width .limit) → Given width s sizes scale lanes ahead
+      ((j : ℕ) → j < s .speedCount → most + energyAt s j * unit ≤ width .limit) → Given width s sizes scale lanes ahead
   given-for most {scale} unit fields table upto e low =
       record {
         fields = fields;
         measured = m;
         table = table;
         room =
-            subst (λ (n : ℕ). n * width .places ≤ length ahead) (zero-add _ ∙ sym (m .after-is)) (row .stands .room);
+            subst (λ (n : ℕ). n * width .places ≤ length ahead) (zero-add _ ∙ sym (m .after-is)) (row .row .room);
         fits = λ n j h k.
             let w = queueWith (sizes .largest) (sizes .bound) n in
             subst (Fits width)
             (sym (costs-told scale n h j ∙ ap (λ (q : Option ℕ). costBy g q w (speedAt s j) (energyAt s j)) e))
-            (bound-fits (costBy g (some unit) w (speedAt s j) (energyAt s j)) (cost-upto g most upto unit w (speedAt s j) (energyAt s j))
+            (bound-fits width (costBy g (some unit) w (speedAt s j) (energyAt s j)) (cost-upto g most upto unit w (speedAt s j) (energyAt s j))
             (low j k));
       }
 

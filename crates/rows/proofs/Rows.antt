@@ -49,14 +49,14 @@ module _ (width : Width) (largest : ℕ) where
   -- that is all that it says, where f gives none of a queue that is not bearable
   pub row-says : (D : ℕ) (f : Queue → Option ℕ) (from : ℕ) (l : List ℕ) → RowOf width largest D f from l → (w : Queue) → length w ≡ D →
       valueInRow width largest l from w ≡ f w
-  row-says D f from l row w long = row-found D f from l (row .stands) w long ∙ only-twice (bearable largest w) (f w) (row .strict w)
+  row-says D f from l row w long = row-found D f from l (row .row) w long ∙ only-twice (bearable largest w) (f w) (row .strict w)
 
   -- and after a slot at a speed of at least w(1), by the positions before the last, what g gives of the queue after the slot
   pub after-says : (D : ℕ) (g : Queue → Option ℕ) (from : ℕ) (l : List ℕ) → RowAfter width largest D g from l → (w : Queue) (speed : ℕ) →
       1 ≤ D → length w ≡ D → NeverFalls w → total w 1 ≤ speed → valueInRow width largest l from (queueIn (pred D) (run w speed)) ≡ g
       (run w speed)
   after-says D g from l row w speed low long never fast =
-      row-found (pred D) (λ v. g (lastTwice v)) from l (row .stands) before shorter ∙
+      row-found (pred D) (λ v. g (lastTwice v)) from l (row .row) before shorter ∙
       ap (λ (v : Queue). only (bearable largest before) (g v)) (sym (run-twice w speed (pred D) whole fast)) ∙
       only-twice (bearable largest before) (g (run w speed))
       (λ e. row .strict (run w speed) (run-never-falls w speed never) (run-bearable largest w speed (pred D) whole fast ∙ e))

@@ -22,7 +22,7 @@ pub record Row (width : Width) (f : ℕ → Option ℕ) (from n : ℕ) (l : List
 
 -- a row of a function from queues to values: what it gives of each bearable queue of D positions; of any other queue it gives none
 pub record RowOf (width : Width) (M D : ℕ) (f : Queue → Option ℕ) (from : ℕ) (l : List ℕ) : Type 0 where
-  pub stands : Row width (λ i. f (queueWith M D i)) from (queueCount M D) l
+  pub row : Row width (λ i. f (queueWith M D i)) from (queueCount M D) l
   pub strict : (w : Queue) → bearable M w ≡ false → f w ≡ none
 
 -- the queues after a slot: "with w(D) standing for w(D+1)" the last total stands twice, and they are numbered by the positions before it
@@ -31,5 +31,5 @@ afterWith M D i = lastTwice (queueWith M (pred D) i)
 
 -- a row of a function from those: what it gives of each bearable one; of any other it gives none
 pub record RowAfter (width : Width) (M D : ℕ) (g : Queue → Option ℕ) (from : ℕ) (l : List ℕ) : Type 0 where
-  pub stands : Row width (λ i. g (afterWith M D i)) from (queueCount M (pred D)) l
+  pub row : Row width (λ i. g (afterWith M D i)) from (queueCount M (pred D)) l
   pub strict : (v : Queue) → NeverFalls v → bearable M v ≡ false → g v ≡ none
