@@ -4,7 +4,7 @@ use mathlib.Core.Path.{_≡_, sym, ap, _∙_}
 use native.Mathlib.Omega.{arith}
 use Rattle.model.specs.Counted.{Counted, M}
 use Rattle.model.specs.Queue.{queueCount}
-use Rattle.model.proofs.Refusal.{Accepted, N-is}
+use Rattle.model.proofs.Refusal.{Ranged, Accepted, N-is}
 use Rattle.queues.specs.Order.{Ranges}
 use Rattle.queues.proofs.Bounds.{ranges-of}
 use Rattle.sheets.specs.Sizes.{Sized, Measured}
@@ -23,11 +23,15 @@ pub sized-same : {s : Counted} {sizes : Sizes} {A : Type 0} → Sized s sizes �
     (s .bound)
 sized-same {s} {sizes} z f = ap (λ (m : ℕ). f m (sizes .bound)) (z .largest-is) ∙ ap (f (M s)) (z .bound-is)
 
+-- M and D are in range where the sheet's fields are
+pub sized-ranges : {s : Counted} {sizes : Sizes} → Ranged s → Sized s sizes → Ranges (sizes .largest) (sizes .bound)
+sized-ranges r z = ranges-of r (z .largest-is) (omega (arith, z .bound-is))
+
 -- the sizes of an accepted sheet are measured
 pub measured : (s : Counted) (sizes : Sizes) {limit : ℕ} → Accepted limit s → Sized s sizes → Measured sizes
 measured s sizes a z =
     record {
-      ranges = ranges-of (a .ranged) (z .largest-is) (omega (arith, z .bound-is));
+      ranges = sized-ranges (a .ranged) z;
       bound-low = omega (arith, a .ranged .bound-low, z .bound-is);
       queues-is = z .queues-is ∙ N-is s ∙ sym (sized-same z queueCount);
       after-is = z .after-is ∙ sym (sized-same z (λ m D. queueCount m (pred D)));

@@ -6,8 +6,8 @@ use Rattle.model.proofs.Refusal.{ranged}
 use Rattle.model.specs.Counted.{counted, isSpeedAt}
 use Rattle.model.specs.Tests.{firstPlace}
 use Rattle.lookups.proofs.Looking.{speed-not-here, speed-found, speed-nowhere}
-use Rattle.lookups.proofs.look.place_of.Statement.{statement}
-use Rattle.lookups.proofs.look.place_of.Tie as tie
+use Rattle.lookups.proofs.place_of.Statement.{statement}
+use Rattle.lookups.proofs.place_of.Tie as tie
 
 abbrev Inv-loop : tie.InvT-loop
 Inv-loop speed sheet place₀ place = (firstPlace (isSpeedAt (counted sheet) speed) place ≡ place) × (place ≤ sheet .«speed_count»)

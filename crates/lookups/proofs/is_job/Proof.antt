@@ -3,8 +3,8 @@ use mathlib.Core.Path.{_≡_, sym, ap}
 use mathlib.Core.Bool.{Bool, _&&_}
 use borrow.Author.Tests.{eq-eqb, ne-eqb}
 use lib.Dec.{eqb}
-use Rattle.lookups.proofs.look.is_job.Statement.{statement}
-use Rattle.lookups.proofs.look.is_job.Tie as tie
+use Rattle.lookups.proofs.is_job.Statement.{statement}
+use Rattle.lookups.proofs.is_job.Tie as tie
 
 returns : tie.Need-returns
 returns c =

@@ -4,8 +4,8 @@ use borrow.Author.Needs.{needs}
 use Rattle.model.proofs.Refusal.{ranged}
 use Rattle.model.specs.Counted.{counted}
 use Rattle.lookups.proofs.Looking.{energy-at-place}
-use Rattle.lookups.proofs.step.energy_of.Statement.{statement}
-use Rattle.lookups.proofs.step.energy_of.Tie as tie
+use Rattle.lookups.proofs.energy_of.Statement.{statement}
+use Rattle.lookups.proofs.energy_of.Tie as tie
 
 place-of-requires : tie.Need-place-of-requires
 place-of-requires c κs = search needs

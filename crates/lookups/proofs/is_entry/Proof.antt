@@ -8,8 +8,8 @@ use Rattle.model.specs.Counted.{counted}
 use Rattle.model.specs.Stepper.{isEntryAt}
 use Rattle.model.specs.Tests.{anywhere}
 use Rattle.lookups.proofs.Looking.{entry-not-here, entry-found, entry-nowhere}
-use Rattle.lookups.proofs.look.is_entry.Statement.{statement}
-use Rattle.lookups.proofs.look.is_entry.Tie as tie
+use Rattle.lookups.proofs.is_entry.Statement.{statement}
+use Rattle.lookups.proofs.is_entry.Tie as tie
 
 abbrev Inv-loop : tie.InvT-loop
 Inv-loop size deadline sheet entry₀ entry = (anywhere (isEntryAt (counted sheet) size deadline) entry ≡ false) × (entry ≤ sheet .«job_count»)
