@@ -4,12 +4,13 @@ use Prim.Native.Nat.{ℕ, zero, suc}
 use mathlib.Core.Path.{_≡_}
 use mathlib.Core.List.{List}
 use Rattle.model.specs.Counted.{Counted, counted}
-use Rattle.model.specs.Plan.{PlanAnswer, Leaves, Untouched, valueIn}
+use Rattle.model.specs.Plan.{PlanAnswer, Leaves, Untouched}
+use Rattle.model.specs.Width.{narrow}
 use Rattle.model.specs.Reading.{read}
 
 -- by the reader's number
 abbrev pub LeavesRead : ℕ → Counted → (values₀ plan₀ values plan : List ℕ) → PlanAnswer → Type 0
-LeavesRead zero s values₀ plan₀ values plan a = Leaves valueIn s values₀ plan₀ values plan a
+LeavesRead zero s values₀ plan₀ values plan a = Leaves narrow s values₀ plan₀ values plan a
 LeavesRead (suc number) s values₀ plan₀ values plan a = Untouched (suc number) values₀ plan₀ values plan a
 
 -- of the planner's answer the function hands the number on

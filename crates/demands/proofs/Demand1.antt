@@ -16,7 +16,7 @@ use Rattle.process.proofs.Definite.{value-unique}
 use Rattle.model.specs.Bytes.{sheetBytes, writeLines, writeRefusal, write}
 use Rattle.model.specs.Counted.{Counted, counted, inMemory, weightAt, zeroSheet, M}
 use Rattle.model.specs.Listing.{listing, listLines, listRefusal, list}
-use Rattle.model.specs.Plan.{processOf, valueIn, planLines, planRefusal, number12, Filled, LeavesBy, rowLines, rowRefusal}
+use Rattle.model.specs.Plan.{processOf, planLines, planRefusal, number12, Filled, LeavesBy, rowLines, rowRefusal}
 use Rattle.model.specs.Plan as model-plan
 use Rattle.model.specs.Queue.{emptyQueue, bearable}
 use Rattle.model.specs.Refusal.{N}
@@ -24,6 +24,7 @@ use Rattle.model.specs.Stepper as model-stepper
 use Rattle.model.specs.Stepper.{queueOf, planByte, startLines, speedLines, isEntry, moved, advanceLines, energyLimit, zeroState}
 use Rattle.model.specs.Tests.{line, _⨾_}
 use Rattle.model.specs.declared.Sheet.{Sheet}
+use Rattle.model.specs.Width.{narrow}
 use Rattle.laws.proofs.Listing.{list-number}
 use Rattle.laws.proofs.Rooms.{row-none, row-past, row-there, row-accepted}
 use Rattle.laws.proofs.RoundTrip.{write-number}
@@ -91,27 +92,27 @@ module _ {sheet : Sheet} {values₀ plan₀ values bytes : List ℕ} {a : PlanAn
   one-value = value-unique (processOf s) (s .jobCount) (weightAt s) _ (emptyQueue (s .bound))
 
   -- the number, by what the planner leaves
-  numbered : (refusal : ℕ) → LeavesBy refusal valueIn s values₀ plan₀ values bytes (answered a) → NumberedOr12 refusal (a .number) (IsValueOfEmpty s)
+  numbered : (refusal : ℕ) → LeavesBy refusal narrow s values₀ plan₀ values bytes (answered a) → NumberedOr12 refusal (a .number) (IsValueOfEmpty s)
   numbered zero leaves = (leaves .empty .r, leaves .empty .is-value, leaves .empty .number)
   numbered (suc refusal) leaves = ap (λ (x : model-plan.PlanAnswer). x .number) (leaves .answer)
 
-  pub plan-answers : AnswersOr12 (a .number) (planLines s (length values₀) (length plan₀)) (IsValueOfEmpty s) (4 ∷ 5 ∷ 6 ∷ 7 ∷ 8 ∷ 9 ∷ 10 ∷ 11 ∷ [])
+  pub plan-answers : AnswersOr12 (a .number) (planLines narrow s (length values₀) (length plan₀)) (IsValueOfEmpty s) (4 ∷ 5 ∷ 6 ∷ 7 ∷ 8 ∷ 9 ∷ 10 ∷ 11 ∷ [])
   unfolding planLines
   plan-answers =
-      let refusal = planRefusal s (length values₀) (length plan₀) in
-      answers-or-12 _ _ _ (planLines s (length values₀) (length plan₀)) (each-of-sheet _ s _ _ _, _) (IsValueOfEmpty s)
+      let refusal = planRefusal narrow s (length values₀) (length plan₀) in
+      answers-or-12 _ _ _ (planLines narrow s (length values₀) (length plan₀)) (each-of-sheet _ s _ _ _, _) (IsValueOfEmpty s)
       (λ v p q. let same = one-value none (some v) p q in let z : _≡_ {A = ℕ} 0 1 = cc in omega arith) refusal refl
       (numbered refusal (plan-is call))
 
   -- "A refused .. plan touches no lent place and reports zero for .. N and least energy; 12 is the exception"
   pub plan-refused : (a .number ≡ 0 → ⊥) → (a .number ≡ 12 → ⊥) → (a .queues ≡ 0) × (a .least ≡ 0) × (values ≡ values₀) × (bytes ≡ plan₀)
-  plan-refused other than-12 = go (planRefusal s (length values₀) (length plan₀)) (plan-is call)
+  plan-refused other than-12 = go (planRefusal narrow s (length values₀) (length plan₀)) (plan-is call)
     where
       planned : (r : Option ℕ) → a .number ≡ number12 r → ⊥
       planned none e = than-12 e
       planned (some v) e = other e
 
-      go : (refusal : ℕ) → LeavesBy refusal valueIn s values₀ plan₀ values bytes (answered a) →
+      go : (refusal : ℕ) → LeavesBy refusal narrow s values₀ plan₀ values bytes (answered a) →
           (a .queues ≡ 0) × (a .least ≡ 0) × (values ≡ values₀) × (bytes ≡ plan₀)
       go zero leaves = absurd (planned (leaves .empty .r) (leaves .empty .number))
       go (suc refusal) leaves = (
@@ -123,10 +124,10 @@ module _ {sheet : Sheet} {values₀ plan₀ values bytes : List ℕ} {a : PlanAn
 
   -- 12 "fills both buffers and reports N, least energy 0"
   pub plan-12-fills : a .number ≡ 12 →
-      Filled valueIn s values₀ plan₀ values bytes (answered a) × (a .queues ≡ N s) × (a .least ≡ 0)
+      Filled narrow s values₀ plan₀ values bytes (answered a) × (a .queues ≡ N s) × (a .least ≡ 0)
   plan-12-fills e =
       let (passed, is-none) = plan-answers .twelve .0 e in
-      let filled = planned-filled call (all-zero (planLines s (length values₀) (length plan₀)) passed) in
+      let filled = planned-filled call (all-zero (planLines narrow s (length values₀) (length plan₀)) passed) in
       let same = one-value (filled .empty .r) none (filled .empty .is-value) is-none in
       (filled, filled .queues, filled .empty .least ∙ ap (λ (r : Option ℕ). Option·getD r 0) same)
 

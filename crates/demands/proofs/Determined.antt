@@ -11,15 +11,17 @@ use Rattle.reader.specs.Calls.{IsRead}
 use Rattle.writer.specs.Calls.{IsWritten}
 use Rattle.reader.specs.declared.ReadSheet.{ReadSheet}
 use Rattle.writer.specs.declared.Written.{Written}
-use Rattle.model.specs.Plan.{valueIn, Leaves, row}
+use Rattle.model.specs.Plan.{Leaves, row}
 use Rattle.model.specs.Plan as model-plan
-use Rattle.model.proofs.Leaves.{leaves-unique}
-use Rattle.planner.specs.Calls.{IsPlan, IsRow}
+use Rattle.model.proofs.Leaves.{leaves-unique, narrow-telling}
+use Rattle.layout.specs.Calls.{IsRow}
+use Rattle.planner.specs.Calls.{IsPlan}
 use Rattle.planner.specs.declared.calls.PlanAnswer.{PlanAnswer}
 use Rattle.model.specs.Listing.{list}
 use Rattle.listing.specs.Calls.{IsListed}
 use Rattle.listing.specs.declared.call.Listed.{Listed}
 use Rattle.model.specs.Stepper as model-stepper
+use Rattle.model.specs.Width.{narrow}
 use Rattle.stepper.specs.Calls.{stateOf, IsStepped, IsTold}
 use Rattle.stepper.specs.declared.state.State.{State}
 use Rattle.stepper.specs.declared.state.Stepped.{Stepped}
@@ -95,8 +97,9 @@ plan-is {sheet = sheet} {values₀ = values₀} {plan₀ = plan₀} {values = va
 pub plan-determined : {s t : Sheet} {values₀ plan₀ values bytes values′ bytes′ : List ℕ} {a b : PlanAnswer} → counted s ≡ counted t →
     Plans s values₀ plan₀ a values bytes → Plans t values₀ plan₀ b values′ bytes′ → (values ≡ values′) × (bytes ≡ bytes′) × (a ≡ b)
 plan-determined {t = t} {values₀ = values₀} {plan₀ = plan₀} {values = values} {bytes = bytes} {values′ = values′} {bytes′ = bytes′} {a = a} {b = b} view first second =
-    let one = subst (λ (s : Counted). Leaves valueIn s values₀ plan₀ values bytes (answered a)) view (plan-is first) in
-    let same = leaves-unique (counted t) values₀ plan₀ values bytes values′ bytes′ (answered a) (answered b) one (plan-is second) in
+    let one = subst (λ (s : Counted). Leaves narrow s values₀ plan₀ values bytes (answered a)) view (plan-is first) in
+    let same = leaves-unique narrow (counted t) values₀ plan₀ values bytes values′ bytes′ (answered a) (answered b) (narrow-telling values values′) one
+    (plan-is second) in
     let back : model-plan.PlanAnswer → PlanAnswer = λ x. record { number = x .number; queues = x .queues; least = x .least } in
     (same .0, same .1, ap back (same .2))
 

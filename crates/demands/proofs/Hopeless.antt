@@ -1,16 +1,18 @@
 -- What number 12 means: where the empty queue has no value at slot 0, no queue has one (`twelve-is-hopeless`). So after a plan that answers 12
 -- every state at slot 0 that passes 13 is refused a speed with 16 (`twelve-is-16`); rows of later slots may still hold speeds.
-use Prim.Native.Nat.{ℕ, zero-le}
+use Prim.Native.Nat.{ℕ}
 use mathlib.Core.Path.{_≡_, sym, subst}
 use mathlib.Core.List.{List}
 use mathlib.Core.Option.{Option, none, some}
 use lib.Dec.{T}
 use lib.ListN.{length}
 use Rattle.model.specs.Counted.{Counted, counted}
-use Rattle.model.specs.Plan.{IsValueAt, valueIn, placeOfQueue, planLines, planRefusal}
+use Rattle.model.specs.Plan.{IsValueAt, planLines, planRefusal}
 use Rattle.model.specs.Queue.{Queue, positions}
 use Rattle.model.specs.Stepper.{stateRight}
 use Rattle.model.specs.declared.Sheet.{Sheet}
+use Rattle.model.specs.Width.{narrow}
+use Rattle.model.proofs.Refusal.{accepted}
 use Rattle.laws.proofs.Rooms.{plan-accepted}
 use Rattle.planner.specs.declared.calls.PlanAnswer.{PlanAnswer}
 use Rattle.stepper.specs.Calls.{stateOf}
@@ -21,7 +23,7 @@ use Rattle.orders.proofs.InOrder.{all-zero}
 use Rattle.demands.specs.Calls.{Plans, Speeds}
 use Rattle.demands.specs.Runs.{queueOfState}
 use Rattle.demands.proofs.Demand1.{plan-answers}
-use Rattle.demands.proofs.Demand2.{value-right}
+use Rattle.demands.proofs.Demand2.{byte-right}
 use Rattle.demands.proofs.NoWay.{state-bearable, state-long, speed-is-16}
 
 module _ {sheet : Sheet} {values₀ plan₀ values bytes : List ℕ} {a : PlanAnswer} (call : Plans sheet values₀ plan₀ a values bytes)
@@ -30,13 +32,13 @@ module _ {sheet : Sheet} {values₀ plan₀ values bytes : List ℕ} {a : PlanAn
   s = counted sheet
 
   -- the plan was not refused
-  planned : planRefusal s (length values₀) (length plan₀) ≡ 0
-  planned = all-zero (planLines s (length values₀) (length plan₀)) (plan-answers call .twelve .0 twelve .0)
+  planned : planRefusal narrow s (length values₀) (length plan₀) ≡ 0
+  planned = all-zero (planLines narrow s (length values₀) (length plan₀)) (plan-answers call .twelve .0 twelve .0)
 
   -- no queue has a value at slot 0
   pub twelve-is-hopeless : (w : Queue) → length w ≡ s .bound → (v : ℕ) → IsValueAt s 0 w (some v) → ⊥
   twelve-is-hopeless w long v value =
-      let fits = plan-accepted s (length values₀) (length plan₀) planned in
+      let fits = plan-accepted s narrow (length values₀) (length plan₀) planned in
       let least = empty-has-value s (fits .0) w long 0 v value .1 in
       plan-answers call .twelve .0 twelve .1 (least .way) (least .holds)
 
@@ -51,6 +53,7 @@ module _ {sheet : Sheet} {values₀ plan₀ values bytes : List ℕ} {a : PlanAn
   twelve-is-16 x six right start asked =
       let w = queueOfState sheet x in
       let long = state-long call planned x six in
-      let value = value-right call planned w (state-bearable sheet x right) long 0 zero-le in
-      let none-there = none-at-start w long (valueIn values (placeOfQueue s 0 w)) value in
+      let slots = accepted s (plan-accepted s narrow (length values₀) (length plan₀) planned .0) .ranged .horizon-low in
+      let (r, is-value, is-byte) = byte-right call planned w (state-bearable sheet x right) long 0 slots in
+      let none-there = none-at-start w long r is-value in
       speed-is-16 call planned x six right (subst (λ (t : ℕ). IsValueAt s t w none) (sym start) none-there) asked

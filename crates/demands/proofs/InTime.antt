@@ -6,17 +6,18 @@ use Prim.Native.Nat.{ℕ, _+_, _-_, _≤_, _<_}
 use mathlib.Core.Path.{_≡_, sym, ap, _∙_, subst}
 use mathlib.Core.List.{List}
 use mathlib.Core.Logic.{_↔_}
-use mathlib.Core.Option.{none}
+use mathlib.Core.Option.{Option, none}
 use native.Mathlib.Nat.{le-trans}
 use native.Mathlib.Omega.{arith}
 use lib.Dec.{T}
 use lib.ListN.{length, getD}
 use Rattle.process.specs.Ways.{Way}
 use Rattle.model.specs.Counted.{Counted, counted, M}
-use Rattle.model.specs.Plan.{placeOfQueue, planRefusal, valueIn}
+use Rattle.model.specs.Plan.{placeOfQueue, byteOfQueue, planRefusal}
 use Rattle.model.specs.Queue.{Queue, total, bearable}
 use Rattle.model.specs.Stepper.{planByte}
 use Rattle.model.specs.declared.Sheet.{Sheet}
+use Rattle.model.specs.Width.{narrow, valueIn}
 use Rattle.model.proofs.Queues.{length-totals}
 use Rattle.model.proofs.Refusal.{Ranged, accepted}
 use Rattle.laws.proofs.Rooms.{plan-accepted}
@@ -39,13 +40,13 @@ use Rattle.demands.proofs.Determined.{speed-is}
 use Rattle.demands.proofs.Stepping.{never-refused}
 
 module _ {sheet : Sheet} {values₀ plan₀ values bytes : List ℕ} {a : PlanAnswer} (call : Plans sheet values₀ plan₀ a values bytes)
-    (planned : planRefusal (counted sheet) (length values₀) (length plan₀) ≡ 0) where
+    (planned : planRefusal narrow (counted sheet) (length values₀) (length plan₀) ≡ 0) where
   abbrev s : Counted
   s = counted sheet
 
   -- the sheet keeps every range
   ranged : Ranged s
-  ranged = accepted s (plan-accepted s (length values₀) (length plan₀) planned .0) .ranged
+  ranged = accepted s (plan-accepted s narrow (length values₀) (length plan₀) planned .0) .ranged
 
   -- jobs that wait, none of them late or with more than D slots left
   module _ (p : Pool) (slots : SlotsUpto (s .bound) p) (on-time : NoneLate p) where
@@ -59,14 +60,14 @@ module _ {sheet : Sheet} {values₀ plan₀ values bytes : List ℕ} {a : PlanAn
 
       -- the value's place says the least scaled energy over all ways that are in time for these jobs, or none
       pub value-in-time : (t : ℕ) → t ≤ sheet .horizon →
-          IsValueOfPool s t p (valueIn values (placeOfQueue s t (queueOfPool (s .bound) p)))
+          IsValueOfPool s t p (valueIn narrow values (placeOfQueue s t (queueOfPool (s .bound) p)))
       value-in-time t h =
-          value-of-pool s ranged p slots on-time t (valueIn values (placeOfQueue s t (queueOfPool (s .bound) p)))
+          value-of-pool s ranged p slots on-time t (valueIn narrow values (placeOfQueue s t (queueOfPool (s .bound) p)))
           (value-right call planned (queueOfPool (s .bound) p) is-bearable long t h)
 
       -- none exactly where no way is
       pub none-in-time : (t : ℕ) → t ≤ sheet .horizon →
-          (valueIn values (placeOfQueue s t (queueOfPool (s .bound) p)) ≡ none) ↔ ((σ : Way) → InTime s (s .horizon - t) p σ → ⊥)
+          (valueIn narrow values (placeOfQueue s t (queueOfPool (s .bound) p)) ≡ none) ↔ ((σ : Way) → InTime s (s .horizon - t) p σ → ⊥)
       none-in-time t h =
           let right = none-right call planned (queueOfPool (s .bound) p) is-bearable long t h in
           let same = good-in-time s ranged p slots on-time (s .horizon - t) in
@@ -74,16 +75,16 @@ module _ {sheet : Sheet} {values₀ plan₀ values bytes : List ℕ} {a : PlanAn
 
       -- the plan byte is the slowest speed that begins a least way that is in time, or 255
       pub byte-in-time : (t : ℕ) → t < sheet .horizon →
-          IsByteOfPool s t p (valueIn values (placeOfQueue s t (queueOfPool (s .bound) p))) (getD bytes (placeOfQueue s t (queueOfPool (s .bound) p)) 0)
+          (r : Option ℕ) × IsValueOfPool s t p r × IsByteOfPool s t p r (byteOfQueue s bytes t (queueOfPool (s .bound) p))
       byte-in-time t h =
-          byte-of-pool s ranged p slots on-time t (valueIn values (placeOfQueue s t (queueOfPool (s .bound) p))) _
-          (byte-right call planned (queueOfPool (s .bound) p) is-bearable long t h)
+          let (r, is-value, is-byte) = byte-right call planned (queueOfPool (s .bound) p) is-bearable long t h in
+          (r, value-of-pool s ranged p slots on-time t r is-value, byte-of-pool s ranged p slots on-time t r _ is-byte)
 
     -- a run from their queue, as in Stepping.antt
     module _ {from : State} {arrivals : List ℕ} (run : Run sheet bytes from arrivals) (short : from .slot + length arrivals ≤ s .horizon)
         (entries : (k : ℕ) → k < length arrivals → getD arrivals k 0 < s .jobCount) (begins : Begins sheet from)
         (their-queue : queueOfPool (s .bound) p ≡ queueOfState sheet from) where
-      whole : NeverRefused sheet values bytes run
+      whole : NeverRefused sheet bytes run
       whole = never-refused call planned run short entries begins
 
       -- after k slots

@@ -5,19 +5,20 @@ use mathlib.Core.Path.{_≡_, sym, subst, _∙_}
 use mathlib.Core.List.{List, _++_}
 use mathlib.Core.Logic.{_↔_}
 use mathlib.Core.Option.{Option, none, some, Option·getD}
-use native.Mathlib.Nat.{le-trans, sub-zero}
+use native.Mathlib.Nat.{le-of-lt, le-trans, sub-zero}
 use native.Mathlib.Omega.{arith}
-use lib.ListN.{length, getD, drop}
+use lib.ListN.{length, drop}
 use Rattle.process.specs.Recursion.{UptoOr}
 use Rattle.process.proofs.Value.{value-some-is}
 use Rattle.model.specs.Bytes.{AreBytes}
 use Rattle.model.specs.Counted.{Counted, counted, weightAt, W, G}
 use Rattle.model.specs.Listing.{listing, listRefusal, list}
-use Rattle.model.specs.Plan.{processOf, IsValueAt, valueIn, placeAt, number12, Decided, FromEmpty, rowRefusal}
+use Rattle.model.specs.Plan.{processOf, IsValueAt, IsPlanByteAt, queueAt, byteAt, number12, FromEmpty, rowRefusal}
 use Rattle.model.specs.Plan as model-plan
 use Rattle.model.specs.Queue.{emptyQueue}
 use Rattle.model.specs.Refusal.{N, sheetRefusal, valueLimit}
 use Rattle.model.specs.declared.Sheet.{Sheet}
+use Rattle.model.specs.Width.{narrow}
 use Rattle.laws.proofs.Listing.{list-number, list-fits}
 use Rattle.laws.proofs.Recursion.{value-most}
 use Rattle.model.proofs.Refusal.{accepted}
@@ -57,9 +58,9 @@ module _ {sheet : Sheet} {values₀ plan₀ values bytes : List ℕ} {p : PlanAn
   listing-done =
       let s = counted sheet in
       let accepted = planned-by-number planned done in
-      let tested = plan-accepted s (length values₀) (length plan₀) accepted in
-      let kept = planned-filled planned accepted .plan-length in
-      let row : rowRefusal s (length bytes) ≡ 0 = sym (row-fits s (length bytes) (tested .0) (omega (arith, tested .2, kept))) in
+      let tested = plan-accepted s narrow (length values₀) (length plan₀) accepted in
+      let long = planned-filled planned accepted .in-plan .same-length in
+      let row : rowRefusal s (length bytes) ≡ 0 = sym (row-fits s (length bytes) (tested .0) (omega (arith, tested .2, long))) in
       let same = list-is call .number-is ∙ list-number s (p .least) bytes before in (
         λ e. listing-fits s (p .least) bytes (length before) (sym same ∙ e),
         λ room. same ∙ list-fits s (p .least) bytes (length before) row room,
@@ -71,7 +72,7 @@ module _ {sheet : Sheet} {values₀ plan₀ values bytes : List ℕ} {p : PlanAn
   listing-enough are-bytes room =
       let s = counted sheet in
       let not-refused = planned-by-number planned done in
-      let tested = plan-accepted s (length values₀) (length plan₀) not-refused in
+      let tested = plan-accepted s narrow (length values₀) (length plan₀) not-refused in
       let fits = least-fits s (tested .0) (p .least) (least-is-value s (answered p) (answer-right planned not-refused .1) done) in
       listing-done .1 (le-trans (listing-upto s (p .least) bytes (tested .0) fits are-bytes) room)
 
@@ -82,7 +83,7 @@ module _ {sheet : Sheet} {values₀ plan₀ values bytes : List ℕ} {p : PlanAn
       (a .length ≡ length (listing s (p .least) bytes)) ×
       (after ≡ listing s (p .least) bytes ++ drop (length (listing s (p .least) bytes)) before) ×
       IsValueAt s 0 (emptyQueue (s .bound)) (some (p .least)) ×
-      ((t i : ℕ) → t < s .horizon → i < N s → Decided s t i (valueIn values (placeAt s t i)) (getD bytes (placeAt s t i) 0))
+      ((t i : ℕ) → t < s .horizon → i < N s → IsPlanByteAt s t (queueAt s i) (byteAt s bytes t i))
   unfolding list
   listing-right e =
       let s = counted sheet in
@@ -92,5 +93,7 @@ module _ {sheet : Sheet} {values₀ plan₀ values bytes : List ℕ} {p : PlanAn
         promised .written-is ∙ rw none,
         promised .buffer-is ∙ rw none,
         least-is-value s (answered p) (answer-right planned accepted .1) done,
-        planned-filled planned accepted .rows,
+        λ t i h l.
+            let f = planned-filled planned accepted in
+            (f .r t i, f .are-values t i (le-of-lt h) l, f .in-plan .bytes t i h l),
       )

@@ -4,18 +4,20 @@ use Prim.Native.Nat.{ℕ, _-_, _<_}
 use mathlib.Core.Path.{_≡_, ap, _∙_, subst}
 use mathlib.Core.List.{List, [], _∷_}
 use mathlib.Core.Logic.{⊎-elim}
-use mathlib.Core.Option.{Option}
-use native.Mathlib.Nat.{eq-or-lt-of-le, le-of-lt}
+use mathlib.Core.Option.{Option, none}
+use native.Mathlib.Nat.{eq-or-lt-of-le}
 use native.Mathlib.Omega.{arith}
 use lib.Dec.{T}
-use lib.ListN.{length, getD}
+use lib.ListN.{length}
 use Rattle.process.specs.Ways.{Way, Good}
 use Rattle.model.specs.Counted.{Counted, counted, M}
-use Rattle.model.specs.Plan.{processOf, IsPlanByte, noSpeed, placeOfQueue, planRefusal}
+use Rattle.model.specs.Plan.{processOf, IsPlanByte, noSpeed, byteOfQueue, planRefusal}
 use Rattle.model.specs.Queue.{Queue, positions, bearable}
 use Rattle.model.specs.Stepper as model
 use Rattle.model.specs.declared.Sheet.{Sheet}
+use Rattle.model.specs.Width.{narrow}
 use Rattle.model.proofs.Queues.{held-bearable, length-in}
+use Rattle.model.proofs.Leaves.{one-value}
 use Rattle.model.proofs.Refusal.{accepted}
 use Rattle.laws.proofs.Rooms.{plan-accepted}
 use Rattle.laws.proofs.Stepper.{state-right, byte-at}
@@ -27,7 +29,7 @@ use Rattle.stepper.specs.declared.state.Stepped.{Stepped}
 use Rattle.stepper.specs.declared.state.Told.{Told}
 use Rattle.demands.specs.Calls.{Plans, Speeds, Advances}
 use Rattle.demands.specs.Runs.{queueOfState}
-use Rattle.demands.proofs.Demand2.{byte-right, none-right}
+use Rattle.demands.proofs.Demand2.{byte-right}
 use Rattle.demands.proofs.Determined.{state-same, speed-is, advance-is}
 use Rattle.demands.proofs.Stepping.{has-room}
 
@@ -45,14 +47,14 @@ state-bearable sheet x right =
     held-bearable (M s) (s .bound) (x .queue) (state-right s (stateOf x) right .0)
 
 module _ {sheet : Sheet} {values₀ plan₀ values bytes : List ℕ} {a : PlanAnswer} (call : Plans sheet values₀ plan₀ a values bytes)
-    (planned : planRefusal (counted sheet) (length values₀) (length plan₀) ≡ 0) where
+    (planned : planRefusal narrow (counted sheet) (length values₀) (length plan₀) ≡ 0) where
   abbrev s : Counted
   s = counted sheet
 
   -- the queue of a state has D positions. That it stands in six places is what the machine gives
   pub state-long : (x : State) → length (x .queue) ≡ positions → length (queueOfState sheet x) ≡ s .bound
   state-long x six =
-      let ranges = accepted s (plan-accepted s (length values₀) (length plan₀) planned .0) .ranged in
+      let ranges = accepted s (plan-accepted s narrow (length values₀) (length plan₀) planned .0) .ranged in
       length-in (s .bound) (x .queue) (omega (arith, six, ranges .bound-high))
 
   -- a state that passes 13, from which no way is good
@@ -80,10 +82,10 @@ module _ {sheet : Sheet} {values₀ plan₀ values bytes : List ℕ} {a : PlanAn
     -- so the plan byte is 255
     byte-none : model.planByte s bytes (stateOf x) ≡ noSpeed
     byte-none =
-        let none-there = none-right call planned w is-bearable long (x .slot) (le-of-lt before-end) .1 no-way in
+        let (r, is-value, is-byte) = byte-right call planned w is-bearable long (x .slot) before-end in
         byte-at s bytes (stateOf x) ∙
-        subst (λ (r : Option ℕ). IsPlanByte s (x .slot) w r (getD bytes (placeOfQueue s (x .slot) w) 0)) none-there
-        (byte-right call planned w is-bearable long (x .slot) before-end)
+        subst (λ (q : Option ℕ). IsPlanByte s (x .slot) w q (byteOfQueue s bytes (x .slot) w))
+        (one-value s (x .slot) w r none is-value no-way) is-byte
 
     -- a speed call
     pub speed-is-16 : {b : Told} → Speeds x sheet bytes b → (b .number ≡ 16) × (b .speed ≡ 0)

@@ -8,9 +8,10 @@ use lib.Dec.{T}
 use lib.ListN.{length}
 use Rattle.process.proofs.Definite.{value-unique}
 use Rattle.model.specs.Counted.{counted, weightAt, M}
-use Rattle.model.specs.Plan.{processOf, IsValueAt, valueIn, planRefusal, placeOfQueue}
+use Rattle.model.specs.Plan.{processOf, IsValueAt, planRefusal, placeOfQueue}
 use Rattle.model.specs.Queue.{Queue, bearable}
 use Rattle.model.specs.declared.Sheet.{Sheet}
+use Rattle.model.specs.Width.{narrow, valueIn}
 use Rattle.laws.proofs.Longer.{bearable-carries}
 use Rattle.planner.specs.declared.calls.PlanAnswer.{PlanAnswer}
 use Rattle.demands.specs.Calls.{Plans}
@@ -20,12 +21,12 @@ use Rattle.pairs.proofs.Demand3.{largest, demand3}
 
 pub plans-eased : {first second : Sheet} {there back : ℕ → ℕ} → Paired (counted first) (counted second) there back →
     {values₀ plan₀ values bytes : List ℕ} {a : PlanAnswer} → Plans first values₀ plan₀ a values bytes →
-    planRefusal (counted first) (length values₀) (length plan₀) ≡ 0 →
+    planRefusal narrow (counted first) (length values₀) (length plan₀) ≡ 0 →
     {values₀′ plan₀′ values′ bytes′ : List ℕ} {b : PlanAnswer} → Plans second values₀′ plan₀′ b values′ bytes′ →
-    planRefusal (counted second) (length values₀′) (length plan₀′) ≡ 0 →
+    planRefusal narrow (counted second) (length values₀′) (length plan₀′) ≡ 0 →
     (v w : Queue) → NowhereLonger v w → T (bearable (M (counted first)) w) → length w ≡ counted first .bound →
-    (t : ℕ) → t ≤ first .horizon → (u : ℕ) → valueIn values (placeOfQueue (counted first) t w) ≡ some u →
-    (u′ : ℕ) × (valueIn values′ (placeOfQueue (counted second) t v) ≡ some u′) × (u′ ≤ u)
+    (t : ℕ) → t ≤ first .horizon → (u : ℕ) → valueIn narrow values (placeOfQueue (counted first) t w) ≡ some u →
+    (u′ : ℕ) × (valueIn narrow values′ (placeOfQueue (counted second) t v) ≡ some u′) × (u′ ≤ u)
 plans-eased {first} {second} {there} {back} p {values = values} one planned {values′ = values′} two planned′ v w longer is-bearable positions t h u e =
     let s = counted first in
     let z = counted second in
@@ -35,6 +36,6 @@ plans-eased {first} {second} {there} {back} p {values = values} one planned {val
     let second-is = value-right two planned′ v carried (longer .positions ∙ positions ∙ sym (p .same-bound)) t
     (subst (λ (T : ℕ). t ≤ T) (sym (p .same-horizon)) h) in (
       eased .0,
-      value-unique (processOf z) (z .jobCount) (weightAt z) (z .horizon - t) v (valueIn values′ (placeOfQueue (counted second) t v)) (some (eased .0)) second-is (eased .1),
+      value-unique (processOf z) (z .jobCount) (weightAt z) (z .horizon - t) v (valueIn narrow values′ (placeOfQueue (counted second) t v)) (some (eased .0)) second-is (eased .1),
       eased .2,
     )

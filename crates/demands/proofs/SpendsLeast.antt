@@ -12,6 +12,7 @@ use Rattle.model.specs.Counted.{Counted, counted, weightAt}
 use Rattle.model.specs.Plan.{processOf, planRefusal}
 use Rattle.model.specs.Refusal.{sheetRefusal, valueLimit}
 use Rattle.model.specs.declared.Sheet.{Sheet}
+use Rattle.model.specs.Width.{narrow}
 use Rattle.laws.proofs.Rooms.{plan-accepted}
 use Rattle.laws.proofs.Stepping.{plannedWay, planned-least, spends-planned}
 use Rattle.planner.specs.declared.calls.PlanAnswer.{PlanAnswer}
@@ -21,13 +22,13 @@ use Rattle.demands.specs.Runs.{queueOfState, Begins, stateAfter, queueAf
 use Rattle.demands.proofs.Stepping.{right-plan, going, long, never-refused, start-begins}
 
 module _ {sheet : Sheet} {values₀ plan₀ values bytes : List ℕ} {a : PlanAnswer} (call : Plans sheet values₀ plan₀ a values bytes)
-    (planned : planRefusal (counted sheet) (length values₀) (length plan₀) ≡ 0) where
+    (planned : planRefusal narrow (counted sheet) (length values₀) (length plan₀) ≡ 0) where
   abbrev s : Counted
   s = counted sheet
 
   -- the sheet is accepted
   passed : sheetRefusal valueLimit s ≡ 0
-  passed = plan-accepted s (length values₀) (length plan₀) planned .0
+  passed = plan-accepted s narrow (length values₀) (length plan₀) planned .0
 
   -- a run to the horizon spends what the planned way spends along its entries
   spends-planned-way : (from : State) → Begins sheet from → (arrivals : List ℕ) (run : Run sheet bytes from arrivals) →
@@ -48,7 +49,7 @@ module _ {sheet : Sheet} {values₀ plan₀ values bytes : List ℕ} {a : PlanAn
       short : from .slot + length arrivals ≤ s .horizon
       short = omega arith
 
-      whole : NeverRefused sheet values bytes run
+      whole : NeverRefused sheet bytes run
       whole = never-refused call planned run short entries begins
 
   -- one least good way from the state's queue over the slots left, such that every run to the horizon from there spends what that way

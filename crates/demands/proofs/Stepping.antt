@@ -11,14 +11,15 @@ use native.Mathlib.Omega.{arith}
 use lib.Dec.{T}
 use lib.ListN.{length, getD}
 use Rattle.process.specs.Sums.{sum}
-use Rattle.process.proofs.Definite.{value-unique}
-use Rattle.model.specs.Counted.{Counted, counted, sizeAt, deadlineAt, weightAt, energyOf, M}
-use Rattle.model.specs.Plan.{processOf, IsPlanByte, valueIn, planRefusal, rowRefusal, placeOfQueue, HasValue}
+use Rattle.model.specs.Counted.{Counted, counted, sizeAt, deadlineAt, energyOf, M}
+use Rattle.model.specs.Plan.{IsPlanByte, planRefusal, rowRefusal, byteOfQueue}
 use Rattle.model.specs.Queue.{Queue, bearable, queueIn, oneSlot}
 use Rattle.model.specs.Refusal.{sheetRefusal, valueLimit}
 use Rattle.model.specs.Stepper as model
 use Rattle.model.specs.declared.Sheet.{Sheet}
+use Rattle.model.specs.Width.{narrow}
 use Rattle.model.proofs.Queues.{held-bearable, length-in, length-slot, in-first-places}
+use Rattle.model.proofs.Leaves.{one-value}
 use Rattle.model.proofs.Refusal.{accepted}
 use Rattle.laws.proofs.Rooms.{plan-accepted, row-accepted, row-fits}
 use Rattle.laws.proofs.Stepper.{byte-at, moved-by}
@@ -31,11 +32,11 @@ use Rattle.stepper.specs.declared.state.Stepped.{Stepped}
 use Rattle.stepper.specs.declared.state.Told.{Told}
 use Rattle.demands.specs.Calls.{Plans, Starts, Speeds, Advances}
 use Rattle.demands.specs.Runs.{Begins, stateAfter, Run, Stands, Steps, NeverRefused, atStart, StartedRun, StartedNeverRefused}
-use Rattle.demands.proofs.Demand2.{planned-filled, value-right, byte-right}
+use Rattle.demands.proofs.Demand2.{planned-filled, byte-right}
 use Rattle.demands.proofs.Determined.{state-same, start-is, speed-is, advance-is}
 
 module _ {sheet : Sheet} {values₀ plan₀ values bytes : List ℕ} {a : PlanAnswer} (call : Plans sheet values₀ plan₀ a values bytes)
-    (planned : planRefusal (counted sheet) (length values₀) (length plan₀) ≡ 0) where
+    (planned : planRefusal narrow (counted sheet) (length values₀) (length plan₀) ≡ 0) where
   abbrev s : Counted
   s = counted sheet
 
@@ -44,22 +45,15 @@ module _ {sheet : Sheet} {values₀ plan₀ values bytes : List ℕ} {a : PlanAn
   -- the row call, and so the stepper, finds room in it
   pub has-room : rowRefusal s (length bytes) ≡ 0
   has-room =
-      let fits = plan-accepted s (length values₀) (length plan₀) planned in
-      let same = planned-filled call planned .plan-length in
+      let fits = plan-accepted s narrow (length values₀) (length plan₀) planned in
+      let same = planned-filled call planned .in-plan .same-length in
       sym (row-fits s (length bytes) (fits .0) (omega (arith, fits .2)))
-
-  -- where a queue has a value, the values say it
-  value-there : (t : ℕ) (w : Queue) → t ≤ s .horizon → length w ≡ s .bound → T (bearable (M s) w) → (h : HasValue s t w) →
-      valueIn values (placeOfQueue (counted sheet) t w) ≡ some (h .0)
-  value-there t w l long right h =
-      value-unique (processOf s) (s .jobCount) (weightAt s) (s .horizon - t) w (valueIn values (placeOfQueue (counted sheet) t w)) (some (h .0))
-      (value-right call planned w right long t l) (h .1)
 
   -- and its bytes are right
   pub right-plan : RightPlan s bytes
   right-plan t l w long right h =
-      subst (λ (r : Option ℕ). IsPlanByte s t w r (getD bytes (placeOfQueue (counted sheet) t w) 0)) (value-there t w (le-of-lt l) long right h)
-      (byte-right call planned w right long t l)
+      let (r, is-value, is-byte) = byte-right call planned w right long t l in
+      subst (λ (q : Option ℕ). IsPlanByte s t w q (byteOfQueue s bytes t w)) (one-value s t w r (some (h .0)) is-value (h .1)) is-byte
 
   -- the sheet is accepted
   passed : sheetRefusal valueLimit s ≡ 0
@@ -151,17 +145,15 @@ module _ {sheet : Sheet} {values₀ plan₀ values bytes : List ℕ} {a : PlanAn
     long k h = length-in (s .bound) (state k .queue) (omega (arith, going k h .six, accepted s passed .ranged .bound-high))
 
     -- the state after k slots
-    stands-so : (k : ℕ) → k ≤ length arrivals → Stands sheet values bytes run k
+    stands-so : (k : ℕ) → k ≤ length arrivals → Stands sheet bytes run k
     stands-so k h =
         let g = going k h in
         let right = held-bearable (M s) (s .bound) (state k .queue) (g .right) in
-        let upto : from .slot + k ≤ s .horizon = omega arith in
         record {
           slot-is = g .at-slot;
           energy-is = energy-sum k h;
           is-bearable = right;
-          has-value =
-              (g .has-value .0, value-there (from .slot + k) (model.queueOf s (state k)) upto (long k h) right (g .has-value));
+          has-value = g .has-value;
         }
 
     -- the slot that follows
@@ -170,7 +162,7 @@ module _ {sheet : Sheet} {values₀ plan₀ values bytes : List ℕ} {a : PlanAn
         let g = going k (le-of-lt h) in
         let w = model.queueOf s (state k) in
         let told = told-so k h g in
-        let at-slot = byte-at s bytes (state k) ∙ ap (λ (u : ℕ). getD bytes (placeOfQueue (counted sheet) u w) 0) (g .at-slot) in
+        let at-slot = byte-at s bytes (state k) ∙ ap (λ (u : ℕ). byteOfQueue (counted sheet) bytes u w) (g .at-slot) in
         record {
           speed-answers = told .0;
           speed-is = told .1 ∙ at-slot;
@@ -179,7 +171,7 @@ module _ {sheet : Sheet} {values₀ plan₀ values bytes : List ℕ} {a : PlanAn
         }
 
     -- every speed and advance before the horizon answers 0
-    pub never-refused : NeverRefused sheet values bytes run
+    pub never-refused : NeverRefused sheet bytes run
     never-refused = record { stands = stands-so; steps = steps-so }
 
     -- at the horizon, after a run along as many entries as there were slots left, the answer is 14, whatever arrives
@@ -223,7 +215,7 @@ module _ {sheet : Sheet} {values₀ plan₀ values bytes : List ℕ} {a : PlanAn
   -- so a run from start is the case of slot 0
   pub started-never-refused : {from : State} {arrivals : List ℕ} (run : StartedRun sheet bytes from arrivals) →
       length arrivals ≤ s .horizon → ((k : ℕ) → k < length arrivals → getD arrivals k 0 < s .jobCount) → Begins sheet (atStart from) →
-      StartedNeverRefused sheet values bytes run
+      StartedNeverRefused sheet bytes run
   started-never-refused run short entries begins =
       let gives = start-begins (run .starts) begins in
       let at-zero = ap (λ (x : State). x .slot) (gives .1) in

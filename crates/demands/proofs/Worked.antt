@@ -3,15 +3,17 @@
 use Prim.Native.Nat.{ℕ, suc, _+_, _*_, _≤_, _<_}
 use mathlib.Core.Path.{_≡_, sym, ap, _∙_, subst}
 use mathlib.Core.List.{List, [], _∷_}
+use native.Mathlib.Nat.{le-of-lt, mul-one}
 use native.Mathlib.Omega.{arith}
 use lib.ListN.{length, getD}
 use Rattle.model.specs.Cases.{A, A0, A1, valuesA0, valuesA1, hopeless, none64, planned, Holds, casesOfA, casesOfHopeless, IsPlanOfA, IsPlanOfHopeless}
 use Rattle.model.specs.Counted.{Counted, counted}
-use Rattle.model.specs.Plan.{valueIn, placeAt, valuesNeeded, planNeeded, PlanAnswer, FromEmpty, Filled}
+use Rattle.model.specs.Plan.{placeAt, queueAt, valuePlaces, planNeeded, PlanAnswer, FromEmpty, Filled}
 use Rattle.model.specs.Refusal.{N, sheetRefusal, valueLimit}
 use Rattle.model.specs.declared.Sheet.{Sheet}
+use Rattle.model.specs.Width.{narrow, valueIn}
 use Rattle.model.proofs.Cases.{A-holds, hopeless-holds}
-use Rattle.model.proofs.Leaves.{decoded-same, decided-same, answer-same}
+use Rattle.model.proofs.Leaves.{narrow-same, one-value, plan-byte-same, answer-same}
 use Rattle.planner.specs.declared.calls.PlanAnswer as code
 use Rattle.demands.specs.Calls.{Plans, answered}
 use Rattle.demands.proofs.Demand2.{planned-by-room, planned-filled}
@@ -21,13 +23,13 @@ module _ {sheet : Sheet} {values₀ plan₀ values bytes : List ℕ} {a : code.P
     (s : Counted) (view : counted sheet ≡ s) (accepted : sheetRefusal valueLimit s ≡ 0) (n : ℕ) (many : N s ≡ n)
     (values-room : suc (s .horizon) * n ≤ length values₀) (plan-room : s .horizon * n ≤ length plan₀) where
   -- the lent memory is filled
-  filled : Filled valueIn s values₀ plan₀ values bytes (answered a)
+  filled : Filled narrow s values₀ plan₀ values bytes (answered a)
   filled =
-      subst (λ (z : Counted). Filled valueIn z values₀ plan₀ values bytes (answered a)) view
+      subst (λ (z : Counted). Filled narrow z values₀ plan₀ values bytes (answered a)) view
       (planned-filled call
-      (planned-by-room (counted sheet) (length values₀) (length plan₀) (ap sheetRefusal valueLimit view ∙ accepted)
-      (subst (λ (z : Counted). valuesNeeded z ≤ length values₀) (sym view)
-      (subst (λ (m : ℕ). suc (s .horizon) * m ≤ length values₀) (sym many) values-room))
+      (planned-by-room (counted sheet) (length values₀) (length plan₀) (ap (sheetRefusal valueLimit) view ∙ accepted)
+      (subst (λ (z : Counted). valuePlaces narrow z ≤ length values₀) (sym view)
+      (subst (λ (m : ℕ). suc (s .horizon) * m * 1 ≤ length values₀) (sym many) (rw mul-one values-room)))
       (subst (λ (z : Counted). planNeeded z ≤ length plan₀) (sym view) (subst (λ (m : ℕ). s .horizon * m ≤ length plan₀) (sym many) plan-room))))
 
   -- where a row of values and one of plan bytes are right for a slot, these rows are left
@@ -35,9 +37,13 @@ module _ {sheet : Sheet} {values₀ plan₀ values bytes : List ℕ} {a : code.P
       (getD values place 0 ≡ getD row i 0) × (getD bytes place 0 ≡ getD plan i 0)
   row-left t row plan right h i place e b =
       let l = subst (λ (m : ℕ). i < m) (sym many) b in
-      let same = decided-same s t i (filled .rows t i h l) (right .2 i l) in
+      let f = filled in
+      let there = f .are-values t i (le-of-lt h) l in
+      let (is-value, is-byte) = right .2 i l in
+      let value = f .in-values .each t i (le-of-lt h) l ∙ one-value s t (queueAt s i) (f .r t i) (valueIn narrow row i) there is-value in
+      let byte = plan-byte-same s t (queueAt s i) _ _ (f .r t i, there, f .in-plan .bytes t i h l) (valueIn narrow row i, is-value, is-byte) in
       subst (λ (p : ℕ). (getD values p 0 ≡ getD row i 0) × (getD bytes p 0 ≡ getD plan i 0)) (ap (λ (m : ℕ). t * m + i) many ∙ sym e)
-      (decoded-same (getD values (placeAt s t i) 0) (getD row i 0) (same .0), same .1)
+      (narrow-same values row (placeAt s t i) i value, byte)
 
   -- where three numbers are the right answer, they are answered
   answer-given : (number least : ℕ) → FromEmpty s (record { number = number; queues = n; least = least }) →

@@ -23,8 +23,8 @@ use Rattle.writer.proofs.write.Reads as write
 use Rattle.planner.specs.declared.calls.PlanAnswer.{PlanAnswer}
 use Rattle.planner.proofs.plan.Kinds as plan-kinds
 use Rattle.planner.proofs.plan.Reads as plan
-use Rattle.planner.proofs.row.Kinds as row-kinds
-use Rattle.planner.proofs.row.Reads as row
+use Rattle.layout.proofs.row.Kinds as row-kinds
+use Rattle.layout.proofs.row.Reads as row
 use Rattle.listing.specs.declared.call.Listed.{Listed}
 use Rattle.listing.proofs.list.Kinds as list-kinds
 use Rattle.listing.proofs.list.Reads as list

@@ -4,12 +4,11 @@
 use Prim.Native.Nat.{ℕ, zero, suc, _+_, _*_, _≤_, _<_}
 use mathlib.Core.Path.{_≡_}
 use mathlib.Core.List.{List}
-use mathlib.Core.Option.{some}
 use lib.Dec.{T}
 use lib.ListN.{length, getD}
 use Rattle.process.specs.Sums.{sum}
 use Rattle.model.specs.Counted.{counted, sizeAt, deadlineAt, energyOf, greatestEnergy, M}
-use Rattle.model.specs.Plan.{HasValue, valueIn, placeOfQueue}
+use Rattle.model.specs.Plan.{HasValue, byteOfQueue}
 use Rattle.model.specs.Queue.{Queue, positions, unusedZero, bearable, oneSlot}
 use Rattle.model.specs.Stepper.{queueOf}
 use Rattle.model.specs.declared.Sheet.{Sheet}
@@ -50,15 +49,14 @@ abbrev pub queueAfter : Sheet → State → (ℕ → Stepped) → ℕ → Queue
 queueAfter sheet from stepped k = queueOfState sheet (stateAfter from stepped k)
 
 -- the state after k slots of a run
-pub record Stands (sheet : Sheet) (values bytes : List ℕ) {from : State} {arrivals : List ℕ} (run : Run sheet bytes from arrivals)
+pub record Stands (sheet : Sheet) (bytes : List ℕ) {from : State} {arrivals : List ℕ} (run : Run sheet bytes from arrivals)
     (k : ℕ) : Type 0 where
   pub slot-is : stateAfter from (run .stepped) k .slot ≡ from .slot + k
   -- the energy spent has grown by the sum of the energies of the speeds told
   pub energy-is : stateAfter from (run .stepped) k .energy ≡ from .energy + sum (λ j. energyOf (counted sheet) (run .told j .speed)) k
   -- the queue is bearable and has a value
   pub is-bearable : T (bearable (M (counted sheet)) (queueAfter sheet from (run .stepped) k))
-  pub has-value : (v : ℕ) ×
-      (valueIn values (placeOfQueue (counted sheet) (from .slot + k) (queueAfter sheet from (run .stepped) k)) ≡ some v)
+  pub has-value : HasValue (counted sheet) (from .slot + k) (queueAfter sheet from (run .stepped) k)
 
 -- the slot that follows: neither call is refused, the speed is the plan's, and the next queue is what the slot and the arrival make of this
 -- one
@@ -66,16 +64,16 @@ pub record Steps (sheet : Sheet) (bytes : List ℕ) {from : State} {arrivals : L
     (k : ℕ) : Type 0 where
   pub speed-answers : run .told k .number ≡ 0
   pub speed-is : run .told k .speed ≡
-      getD bytes (placeOfQueue (counted sheet) (from .slot + k) (queueAfter sheet from (run .stepped) k)) 0
+      byteOfQueue (counted sheet) bytes (from .slot + k) (queueAfter sheet from (run .stepped) k)
   pub advance-answers : run .stepped k .number ≡ 0
   pub queue-is : queueAfter sheet from (run .stepped) (suc k) ≡
       oneSlot (queueAfter sheet from (run .stepped) k) (run .told k .speed)
       (sizeAt (counted sheet) (getD arrivals k 0)) (deadlineAt (counted sheet) (getD arrivals k 0))
 
 -- the whole run
-pub record NeverRefused (sheet : Sheet) (values bytes : List ℕ) {from : State} {arrivals : List ℕ}
+pub record NeverRefused (sheet : Sheet) (bytes : List ℕ) {from : State} {arrivals : List ℕ}
     (run : Run sheet bytes from arrivals) : Type 0 where
-  pub stands : (k : ℕ) → k ≤ length arrivals → Stands sheet values bytes run k
+  pub stands : (k : ℕ) → k ≤ length arrivals → Stands sheet bytes run k
   pub steps : (k : ℕ) → k < length arrivals → Steps sheet bytes run k
 
 -- "Start takes a sheet and a queue and gives slot 0, energy 0"
@@ -89,8 +87,8 @@ pub record StartedRun (sheet : Sheet) (bytes : List ℕ) (from : State) (arrival
   pub run : Run sheet bytes (started .state) arrivals
 
 -- the whole of it: start answers 0 and gives that queue at slot 0, and what follows is a run that is never refused
-pub record StartedNeverRefused (sheet : Sheet) (values bytes : List ℕ) {from : State} {arrivals : List ℕ}
+pub record StartedNeverRefused (sheet : Sheet) (bytes : List ℕ) {from : State} {arrivals : List ℕ}
     (run : StartedRun sheet bytes from arrivals) : Type 0 where
   pub start-answers : run .started .number ≡ 0
   pub start-gives : run .started .state ≡ atStart from
-  pub never-refused : NeverRefused sheet values bytes (run .run)
+  pub never-refused : NeverRefused sheet bytes (run .run)

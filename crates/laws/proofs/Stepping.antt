@@ -16,7 +16,7 @@ use Rattle.process.specs.Sums.{sum}
 use Rattle.process.specs.Ways.{Way, spent, IsLeast, IsFirst}
 use Rattle.process.proofs.Value.{first-step, plan-least, value-some-is, first-plan, SlotByRule, spent-by-rule}
 use Rattle.model.specs.Counted.{Counted, speedAt, sizeAt, deadlineAt, weightAt, onSheet, energyOf, greatestEnergy, M}
-use Rattle.model.specs.Plan.{nextQueue, processOf, HasValue, noSpeed, placeOfQueue, rowRefusal}
+use Rattle.model.specs.Plan.{nextQueue, processOf, HasValue, noSpeed, byteOfQueue, rowRefusal}
 use Rattle.model.specs.Queue.{Queue, total, positions, queueIn, placesOf, bearable, unusedZero, bearableIn, oneSlot}
 use Rattle.model.specs.Refusal.{sheetRefusal, valueLimit}
 use Rattle.model.specs.Stepper.{State, queueOf, queueRight, stateRight, start, planByte, byteRight, speedRefusal, speed, isEntry, moved, energyLimit, nextRefusal, advanceRefusal, advance}
@@ -33,7 +33,7 @@ use Rattle.model.proofs.Tests.{holds-true, fails-false, and-both, check-passes,
 abbrev pub RightPlan : Counted → List ℕ → Type 0
 RightPlan s plan =
     (t : ℕ) → t < s .horizon → (w : Queue) → length w ≡ s .bound → T (bearable (M s) w) → HasValue s t w →
-    IsFirst (processOf s) (s .jobCount) (weightAt s) (s .horizon - t) w (getD plan (placeOfQueue s t w) 0)
+    IsFirst (processOf s) (s .jobCount) (weightAt s) (s .horizon - t) w (byteOfQueue s plan t w)
 
 -- a state at slot t from which stepping goes on
 pub record Going (s : Counted) (t : ℕ) (x : State) : Type 0 where
@@ -125,7 +125,7 @@ module _ (s : Counted) where
     -- the plan byte begins a least way
     first : IsFirst (processOf s) (s .jobCount) (weightAt s) (s .horizon - t) (queueOf s x) byte
     first =
-        let at-slot = byte-at s plan x ∙ ap (λ (u : ℕ). getD plan (placeOfQueue s u (queueOf s x)) 0) (g .at-slot) in
+        let at-slot = byte-at s plan x ∙ ap (λ (u : ℕ). byteOfQueue s plan u (queueOf s x)) (g .at-slot) in
         subst (IsFirst (processOf s) (s .jobCount) (weightAt s) (s .horizon - t) (queueOf s x)) (sym at-slot)
         (right-plan t h (queueOf s x) long (held-bearable (M s) (s .bound) (x .queue) (g .right)) (g .has-value))
 
@@ -222,10 +222,10 @@ module _ (s : Counted) where
   -- a right plan holds these speeds
   right-planned : sheetRefusal valueLimit s ≡ 0 → (plan : List ℕ) → RightPlan s plan →
       (t : ℕ) → t < s .horizon → (w : Queue) → length w ≡ s .bound → HasValue s t w →
-      getD plan (placeOfQueue s t w) 0 ≡ planned (s .horizon - t) w
+      byteOfQueue s plan t w ≡ planned (s .horizon - t) w
   unfolding processOf
   right-planned e plan right-plan t h w long v =
-      let byte = getD plan (placeOfQueue s t w) 0 in
+      let byte = byteOfQueue s plan t w in
       let slots : suc (s .horizon - suc t) ≡ s .horizon - t = omega arith in
       let ranges = accepted s e .ranged in
       subst (λ (k : ℕ). IsFirst (processOf s) (s .jobCount) (weightAt s) k w byte → byte ≡ planned k w) slots
@@ -238,7 +238,7 @@ module _ (s : Counted) where
       (t : ℕ) (arrivals : List ℕ) → t + length arrivals ≡ s .horizon → (queue : ℕ → Queue) (speedIn : ℕ → ℕ) →
       ((k : ℕ) → k < length arrivals →
       (length (queue k) ≡ s .bound) × HasValue s (t + k) (queue k) ×
-      (speedIn k ≡ getD plan (placeOfQueue s (t + k) (queue k)) 0) ×
+      (speedIn k ≡ byteOfQueue s plan (t + k) (queue k)) ×
       (queue (suc k) ≡ oneSlot (queue k) (speedIn k) (sizeAt s (getD arrivals k 0)) (deadlineAt s (getD arrivals k 0)))) →
       sum (λ k. energyOf s (speedIn k)) (length arrivals) ≡ spent (processOf s) (queue 0) (plannedWay t (queue 0)) arrivals
   unfolding processOf nextQueue sum

@@ -1,21 +1,18 @@
--- The lines of a listing as the code puts them: of plan bytes from a place on, and of so many slots and queues.
-use Prim.Native.Nat.{ℕ, _+_, _*_, _≤_}
+-- The lines of a listing as the code puts them: of so many slots and queues.
+use Prim.Native.Nat.{ℕ, _≤_}
 use mathlib.Core.List.{List, _++_}
-use lib.ListN.{length, getD}
+use lib.ListN.{length}
 use Rattle.model.specs.Listing.{text, decimal, lineOf}
 use Rattle.model.specs.Tests.{inTurn}
+use Rattle.layout.specs.Places.{placeIn, byteIn}
 
 -- one plan byte, after its space
 abbrev pub byteListed : ℕ → List ℕ
 byteListed byte = text " " ++ decimal byte
 
--- the plan bytes from a place on
-abbrev pub bytesFrom : List ℕ → ℕ → ℕ → ℕ
-bytesFrom plan first i = getD plan (first + i) 0
-
 -- the line of a slot, and those of the first slots
 abbrev pub lineAt : List ℕ → (queues slot : ℕ) → List ℕ
-lineAt plan queues slot = lineOf slot (bytesFrom plan (slot * queues)) queues
+lineAt plan queues slot = lineOf slot (byteIn queues plan slot) queues
 
 abbrev pub linesTo : List ℕ → (queues slots : ℕ) → List ℕ
 linesTo plan queues slots = inTurn (lineAt plan queues) slots
@@ -24,4 +21,4 @@ linesTo plan queues slots = inTurn (lineAt plan queues) slots
 pub record HasRows (plan : List ℕ) (queues slots : ℕ) : Type 0 where
   pub few-queues : queues ≤ 65535
   pub few-slots : slots ≤ 200
-  pub rows : slots * queues ≤ length plan
+  pub rows : placeIn queues slots 0 ≤ length plan

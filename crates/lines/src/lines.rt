@@ -2,13 +2,14 @@
 use decimals::decimal_length;
 use decimals::put_decimal;
 use decimals::put_text;
-use sheets::place;
+use layout::byte_at;
 ghost use mathlib.Core.Path.{_≡_};
 ghost use Prim.Native.Nat.{_+_, _*_, _≤_};
 ghost use lib.ListN.{length};
 ghost use Rattle.model.specs.Listing.{bytesListed};
 ghost use Rattle.buffers.specs.Laid.{Laid};
-ghost use Rattle.lines.specs.Lines.{byteListed, bytesFrom, lineAt, linesTo, HasRows};
+ghost use Rattle.layout.specs.Places.{byteIn, HasRow};
+ghost use Rattle.lines.specs.Lines.{byteListed, lineAt, linesTo, HasRows};
 
 // How many bytes a plan byte takes, with the space before it: at most 1 and the 20 digits that a number can have.
 fn byte_length(byte: u8) -> usize
@@ -17,15 +18,15 @@ fn byte_length(byte: u8) -> usize
     1 + decimal_length(byte as u64)
 }
 
-// How many bytes the plan bytes of so many queues take, from a place of the plan on.
-fn bytes_length(plan: &[u8], first: usize, queues: usize) -> usize
-    requires { ⌜ (queues ≤ 65535) × (first + queues ≤ length (now plan)) ⌝ }
-    ensures { λ r. ⌜ (r ≡ length (bytesListed (bytesFrom (now (plan .entry)) first) queues)) × (r ≤ 21 * queues) ⌝ }
+// How many bytes the plan bytes of a slot take.
+fn bytes_length(plan: &[u8], queues: usize, slot: u32) -> usize
+    requires { ⌜ HasRow (now plan) queues slot ⌝ }
+    ensures { λ r. ⌜ (r ≡ length (bytesListed (byteIn queues (now (plan .entry)) slot) queues)) × (r ≤ 21 * queues) ⌝ }
 {
     let mut all = 0;
     let mut queue = 0;
     while queue < queues {
-        all += byte_length(plan[first + queue]);
+        all += byte_length(byte_at(plan, queues, slot, queue));
         queue += 1;
     }
     all
@@ -34,12 +35,11 @@ fn bytes_length(plan: &[u8], first: usize, queues: usize) -> usize
 // How many bytes the line of a slot takes: a colon and a line feed beside the slot and the plan bytes. So it takes at most 22 and 21 for
 // each of 65,535 queues.
 fn line_length(plan: &[u8], queues: usize, slot: u32) -> usize
-    requires { ⌜ (queues ≤ 65535) × (slot ≤ 200) × (slot * queues + queues ≤ length (now plan)) ⌝ }
+    requires { ⌜ HasRow (now plan) queues slot ⌝ }
     ensures { λ r. ⌜ (r ≡ length (lineAt (now (plan .entry)) queues slot)) × (r ≤ 1376257) ⌝ }
 {
-    let first = place(queues, slot, 0);
     let slot_length = decimal_length(slot as u64);
-    let bytes = bytes_length(plan, first, queues);
+    let bytes = bytes_length(plan, queues, slot);
     slot_length + bytes + 2
 }
 
@@ -66,16 +66,16 @@ fn put_byte(buffer: &mut [u8], at: usize, byte: u8) -> usize
     put_decimal(buffer, at + 1, byte as u64)
 }
 
-// Puts the plan bytes of so many queues, from a place of the plan on.
-fn put_bytes(buffer: &mut [u8], at: usize, plan: &[u8], first: usize, queues: usize) -> usize
-    requires { ⌜ (first + queues ≤ length (now plan)) ×
-        (at + length (bytesListed (bytesFrom (now plan) first) queues) ≤ length (now buffer)) ⌝ }
-    ensures { λ r. ⌜ Laid at (bytesListed (bytesFrom (now (plan .entry)) first) queues) (now (buffer .entry)) (now (buffer .exit)) r ⌝ }
+// Puts the plan bytes of a slot.
+fn put_bytes(buffer: &mut [u8], at: usize, plan: &[u8], queues: usize, slot: u32) -> usize
+    requires { ⌜ HasRow (now plan) queues slot ×
+        (at + length (bytesListed (byteIn queues (now plan) slot) queues) ≤ length (now buffer)) ⌝ }
+    ensures { λ r. ⌜ Laid at (bytesListed (byteIn queues (now (plan .entry)) slot) queues) (now (buffer .entry)) (now (buffer .exit)) r ⌝ }
 {
     let mut next = at;
     let mut queue = 0;
     while queue < queues {
-        next = put_byte(buffer, next, plan[first + queue]);
+        next = put_byte(buffer, next, byte_at(plan, queues, slot, queue));
         queue += 1;
     }
     next
@@ -83,14 +83,13 @@ fn put_bytes(buffer: &mut [u8], at: usize, plan: &[u8], first: usize, queues: us
 
 // Puts the line of a slot.
 fn put_line(buffer: &mut [u8], at: usize, plan: &[u8], queues: usize, slot: u32) -> usize
-    requires { ⌜ (queues ≤ 65535) × (slot ≤ 200) × (slot * queues + queues ≤ length (now plan)) ×
+    requires { ⌜ HasRow (now plan) queues slot ×
         (at + length (lineAt (now plan) queues slot) ≤ length (now buffer)) ⌝ }
     ensures { λ r. ⌜ Laid at (lineAt (now (plan .entry)) queues slot) (now (buffer .entry)) (now (buffer .exit)) r ⌝ }
 {
     let at_colon = put_decimal(buffer, at, slot as u64);
     let at_bytes = put_text(buffer, at_colon, b":");
-    let first = place(queues, slot, 0);
-    let at_end = put_bytes(buffer, at_bytes, plan, first, queues);
+    let at_end = put_bytes(buffer, at_bytes, plan, queues, slot);
     put_text(buffer, at_end, b"\n")
 }
 

@@ -54,12 +54,15 @@ pub placed-narrow : (l : List ℕ) (i : ℕ) → placed narrow l i ≡ getD l i 
 unfolding numberFrom
 placed-narrow l i = ap (λ (p : ℕ). getD l p 0 + 2 ^ 64 * 0) (mul-one i) ∙ add-zero (getD l i 0)
 
--- so that any two buffers tell
+-- so that places which say the same value hold the same number
+pub narrow-same : (l m : List ℕ) (i j : ℕ) → valueIn narrow l i ≡ valueIn narrow m j → getD l i 0 ≡ getD m j 0
+narrow-same l m i j e = sym (placed-narrow l i) ∙ decode-same narrow (placed narrow l i) (placed narrow m j) e ∙ placed-narrow m j
+
+-- and any two buffers tell
 pub narrow-telling : (l m : List ℕ) → Telling narrow l m
 narrow-telling l m i p h e =
-    let here : i * 1 + p ≡ i = omega (arith, mul-one i) in
-    let same = decode-same narrow (placed narrow l i) (placed narrow m i) e in
-    ap (λ (j : ℕ). getD l j 0) here ∙ sym (placed-narrow l i) ∙ same ∙ placed-narrow m i ∙ sym (ap (λ (j : ℕ). getD m j 0) here)
+    let here : i ≡ i * 1 + p = omega (arith, mul-one i) in
+    subst (λ (j : ℕ). getD l j 0 ≡ getD m j 0) here (narrow-same l m i i e)
 
 module _ (s : Counted) where
   -- a slot and queue have one value

@@ -4,7 +4,8 @@ use mathlib.Core.Path.{_≡_, refl, sym, _∙_, subst}
 use mathlib.Core.List.{List}
 use borrow.Author.Needs.{needs}
 use Rattle.model.specs.Counted.{counted}
-use Rattle.model.specs.Plan.{PlanAnswer, Leaves, valueIn}
+use Rattle.model.specs.Plan.{PlanAnswer, Leaves}
+use Rattle.model.specs.Width.{narrow}
 use Rattle.model.specs.Reading.{read}
 use Rattle.model.specs.declared.Sheet.{Sheet}
 use Rattle.reader.specs.Calls.{IsRead}
@@ -32,14 +33,14 @@ refused-read values plan {bytes} {number} is some =
 
 -- they are read, and the sheet is planned
 planned-read : {bytes values₀ plan₀ values plan : List ℕ} {number : ℕ} {sheet : Sheet} (answer : PlanAnswer) → IsRead bytes number sheet →
-    number ≡ 0 → Leaves valueIn (counted sheet) values₀ plan₀ values plan answer →
+    number ≡ 0 → Leaves narrow (counted sheet) values₀ plan₀ values plan answer →
     IsPlanned bytes values₀ plan₀ values plan (answer .number)
 planned-read {bytes} {values₀} {plan₀} {values} {plan} answer is none left =
     record {
       answer = answer;
       number-is = refl;
       leaves = subst (λ (n : ℕ). LeavesRead n (counted (read bytes .sheet)) values₀ plan₀ values plan answer) (sym none ∙ is .number-is)
-          (subst (λ (sheet : Sheet). Leaves valueIn (counted sheet) values₀ plan₀ values plan answer) (is .sheet-is) left);
+          (subst (λ (sheet : Sheet). Leaves narrow (counted sheet) values₀ plan₀ values plan answer) (is .sheet-is) left);
     }
 
 read-requires : tie.Need-read-requires

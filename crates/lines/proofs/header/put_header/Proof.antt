@@ -136,12 +136,12 @@ returns c =
     let scaleText = scale .before .before .before .before in
     let queues = scaleText .before .before .before .before .before in
     let queuesText = queues .before .before .before .before in
-    let from-least = laid-then (least .put-decimal3 .ensures) (end .put-text4 .ensures) (room-least leastText) in
-    let from-least-text = laid-then (leastText .put-text3 .ensures) from-least (room-least-text scale) in
-    let from-scale = laid-then (scale .put-decimal2 .ensures) from-least-text (room-scale scaleText) in
-    let from-scale-text = laid-then (scaleText .put-text2 .ensures) from-scale (room-scale-text queues) in
-    let from-queues = laid-then (queues .put-decimal .ensures) from-scale-text (room-queues queuesText) in
-    laid-then (queuesText .put-text .ensures) from-queues (room-queues-text (start1 queuesText))
+    let from-least = laid-then (least .put-decimal3 .ensures) (end .put-text4 .ensures) in
+    let from-least-text = laid-then (leastText .put-text3 .ensures) from-least in
+    let from-scale = laid-then (scale .put-decimal2 .ensures) from-least-text in
+    let from-scale-text = laid-then (scaleText .put-text2 .ensures) from-scale in
+    let from-queues = laid-then (queues .put-decimal .ensures) from-scale-text in
+    laid-then (queuesText .put-text .ensures) from-queues
 
 pub put-header-spec : {M : Type 1} → statement M
 put-header-spec =

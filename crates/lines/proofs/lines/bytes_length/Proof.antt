@@ -6,26 +6,23 @@ use lib.ListN.{length}
 use Rattle.model.proofs.Tests.{turn-next}
 use Rattle.model.specs.Listing.{bytesListed}
 use Rattle.model.specs.Tests.{inTurn}
-use Rattle.lines.specs.Lines.{bytesFrom}
+use Rattle.layout.specs.Places.{byteIn}
 use Rattle.lines.proofs.lines.bytes_length.Statement.{statement}
 use Rattle.lines.proofs.lines.bytes_length.Tie as tie
 
 abbrev Inv-loop : tie.InvT-loop
-Inv-loop plan first queues all₀ queue₀ all queue =
-    (queue ≤ queues) × (all ≡ length (bytesListed (bytesFrom plan first) queue)) × (all ≤ 21 * queue)
+Inv-loop plan queues slot all₀ queue₀ all queue =
+    (queue ≤ queues) × (all ≡ length (bytesListed (byteIn queues plan slot) queue)) × (all ≤ 21 * queue)
 
 abbrev μ-loop : tie.MeasureT-loop
-μ-loop plan first queues all₀ queue₀ all queue = queues - queue
+μ-loop plan queues slot all₀ queue₀ all queue = queues - queue
 
 loop-holds : tie.Need-loop-holds Inv-loop μ-loop
 unfolding bytesListed inTurn
 loop-holds c = (omega arith, refl, omega arith)
 
-add-byte-length : tie.Need-add-byte-length Inv-loop μ-loop
-add-byte-length c = omega (arith, c .before .before .before .pre .1)
-
-shared-slice-read-byte-length : tie.Need-shared-slice-read-byte-length Inv-loop μ-loop
-shared-slice-read-byte-length c = omega (arith, c .before .before .before .before .pre .1)
+byte-at-requires : tie.Need-byte-at-requires Inv-loop μ-loop
+byte-at-requires c κs = (c .before .before .before .pre, c .loop-test .taken)
 
 byte-length-requires : tie.Need-byte-length-requires Inv-loop μ-loop
 byte-length-requires c κs = tt
@@ -33,10 +30,10 @@ byte-length-requires c κs = tt
 add-all : tie.Need-add-all Inv-loop μ-loop
 add-all c =
     let l = c .before .before .before .loop in
-    omega (arith, l .inv .0, l .inv .2, c .byte-length .ensures .1, c .before .before .before .before .before .pre .0)
+    omega (arith, l .inv .0, l .inv .2, c .byte-length .ensures .1, c .before .before .before .before .before .pre .few-queues)
 
 add-queue : tie.Need-add-queue Inv-loop μ-loop
-add-queue c = omega (arith, c .before .before .before .before .before .pre .0)
+add-queue c = omega (arith, c .before .before .before .before .before .pre .few-queues)
 
 loop-less : tie.Need-loop-less Inv-loop μ-loop
 loop-less c = omega arith
@@ -52,7 +49,7 @@ returns c =
     let a = c .before .before .before .args in
     let l = c .before .loop in
     let whole : l .queue ≡ a .queues = omega arith in
-    (l .inv .1 ∙ ap (λ n. length (bytesListed (bytesFrom (a .plan .now) (a .first)) n)) whole, omega (arith, l .inv .2))
+    (l .inv .1 ∙ ap (λ n. length (bytesListed (byteIn (a .queues) (a .plan .now) (a .slot)) n)) whole, omega (arith, l .inv .2))
 
 pub bytes-length-spec : {M : Type 1} → statement M
 bytes-length-spec =
@@ -61,8 +58,7 @@ bytes-length-spec =
     Inv-loop
     μ-loop
     loop-holds
-    add-byte-length
-    shared-slice-read-byte-length
+    byte-at-requires
     byte-length-requires
     add-all
     add-queue

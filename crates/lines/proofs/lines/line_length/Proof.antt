@@ -5,9 +5,6 @@ use Rattle.lines.proofs.Rows.{line-length}
 use Rattle.lines.proofs.lines.line_length.Statement.{statement}
 use Rattle.lines.proofs.lines.line_length.Tie as tie
 
-place-requires : tie.Need-place-requires
-place-requires c κs = search needs
-
 decimal-length-requires : tie.Need-decimal-length-requires
 decimal-length-requires c κs = search needs
 
@@ -22,19 +19,18 @@ add-result-2 c = search needs
 
 returns : tie.Need-returns
 returns c =
-    let start = c .before .before .before .before in
+    let start = c .before .before .before in
     let a = start .args in
     let digits = c .before .decimal-length .ensures in
     let bytes = c .bytes-length .ensures in (
-      line-length (a .plan .now) (a .queues) (a .slot) (c .before .before .place .ensures) (digits .0) (bytes .0),
-      omega (arith, digits .1, bytes .1, start .pre .0),
+      line-length (a .plan .now) (a .queues) (a .slot) (digits .0) (bytes .0),
+      omega (arith, digits .1, bytes .1, start .pre .few-queues),
     )
 
 pub line-length-spec : {M : Type 1} → statement M
 line-length-spec =
     tie.close
     (tie.spec
-    place-requires
     decimal-length-requires
     bytes-length-requires
     add-result

@@ -6,7 +6,7 @@ use lib.ListN.{length}
 use Rattle.model.proofs.Tests.{turn-next}
 use Rattle.model.specs.Tests.{inTurn}
 use Rattle.lines.specs.Lines.{linesTo}
-use Rattle.lines.proofs.Rows.{row-within}
+use Rattle.lines.proofs.Rows.{row-of-slot}
 use Rattle.lines.proofs.lines.lines_length.Statement.{statement}
 use Rattle.lines.proofs.lines.lines_length.Tie as tie
 
@@ -22,7 +22,7 @@ unfolding inTurn
 loop-holds c = (omega arith, refl, omega arith)
 
 line-length-requires : tie.Need-line-length-requires Inv-loop μ-loop
-line-length-requires c κs = row-within (c .before .before .before .pre) (c .loop-test .taken)
+line-length-requires c κs = row-of-slot (c .before .before .before .pre) (c .loop-test .taken)
 
 add-all : tie.Need-add-all Inv-loop μ-loop
 add-all c =

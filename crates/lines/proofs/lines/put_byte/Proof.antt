@@ -23,7 +23,7 @@ returns : tie.Need-returns
 returns c =
     let start = c .before .before .before .before .before in
     laid-then (laid-one (start .args .at) 32 (start .args .buffer .now) (slice-write-buffer (c .before .before .before .before)))
-    (c .before .before .put-decimal .ensures) (start .pre)
+    (c .before .before .put-decimal .ensures)
 
 pub put-byte-spec : {M : Type 1} → statement M
 put-byte-spec =

@@ -1,21 +1,18 @@
 -- `put_line` meets its contract: the slot, the colon, the plan bytes and the line feed are laid, each behind the one before it.
-use Prim.Native.Nat.{ℕ, _+_, _*_, _≤_}
+use Prim.Native.Nat.{ℕ, _+_, _≤_}
 use mathlib.Core.List.{List, _++_}
-use native.Mathlib.Omega.{arith}
 use borrow.Author.Needs.{needs}
 use lib.ListN.{length}
 use Rattle.model.specs.Listing.{text, decimal, bytesListed, lineOf}
-use Rattle.buffers.specs.Laid.{Laid}
 use Rattle.buffers.proofs.Laid.{laid-then, room-first, room-then}
-use Rattle.lines.specs.Lines.{bytesFrom}
-use Rattle.lines.proofs.Rows.{bytes-placed}
+use Rattle.layout.specs.Places.{byteIn}
 use Rattle.lines.proofs.lines.put_line.Statement.{statement}
 use Rattle.lines.proofs.lines.put_line.Tie as tie
 
 -- the line from a part on
 
 abbrev bytes : tie.Start → List ℕ
-bytes start = bytesListed (bytesFrom (start .args .plan .now) (start .args .slot * start .args .queues)) (start .args .queues)
+bytes start = bytesListed (byteIn (start .args .queues) (start .args .plan .now) (start .args .slot)) (start .args .queues)
 
 abbrev fromBytes : tie.Start → List ℕ
 fromBytes start = bytes start ++ text "\n"
@@ -34,14 +31,11 @@ start1 c = c .before .before .before .before
 abbrev start2 : tie.After-put-text → tie.Start
 start2 c = start1 (c .before .before .before .before .before)
 
-abbrev start3 : tie.After-put-bytes → tie.Start
-start3 c = start2 (c .before .before .before .before .before)
-
 -- where a part begins, there is room for the line from it on
 
 room-slot : (c : tie.Start) → c .args .at + length (fromSlot c) ≤ length (c .args .buffer .now)
 unfolding lineOf
-room-slot c = c .pre .3
+room-slot c = c .pre .1
 
 room-colon : (c : tie.After-put-decimal) → c .put-decimal .result + length (fromColon (start1 c)) ≤ length (c .put-decimal .last .0)
 room-colon c = room-then _ (c .put-decimal .ensures) (room-slot (start1 c))
@@ -49,14 +43,6 @@ room-colon c = room-then _ (c .put-decimal .ensures) (room-slot (start1 c))
 room-bytes : (c : tie.After-put-text) → c .put-text .result + length (fromBytes (start2 c)) ≤ length (c .put-text .last .0)
 room-bytes c =
     room-then {l = text ":"} (fromBytes (start2 c)) (c .put-text .ensures) (room-colon (c .before .before .before .before .before))
-
--- the plan bytes laid are those of the slot
-bytes-laid : (c : tie.After-put-bytes) →
-    Laid (c .before .before .before .before .before .put-text .result) (bytes (start3 c))
-    (c .before .before .before .before .before .put-text .last .0) (c .put-bytes .last .0) (c .put-bytes .result)
-bytes-laid c =
-    let a = start3 c .args in
-    rw (← bytes-placed (a .plan .now) (a .queues) (a .slot) (c .before .before .place .ensures)) (c .put-bytes .ensures)
 
 put-decimal-requires : tie.Need-put-decimal-requires
 put-decimal-requires c κs =
@@ -71,18 +57,11 @@ put-text-requires c κs =
     let slot = c .before .before .before .before in
     room-first _ _ (text ":") (fromBytes (start1 slot)) (room-colon slot)
 
-place-requires : tie.Need-place-requires
-place-requires c κs = search needs
-
 put-bytes-requires : tie.Need-put-bytes-requires
 put-bytes-requires c κs =
-    let colon = c .before .before .before .before in
+    let colon = c .before .before .before in
     let start = start2 colon in
-    let a = start .args in (
-      omega (arith, start .pre .2, c .before .place .ensures),
-      rw (bytes-placed (a .plan .now) (a .queues) (a .slot) (c .before .place .ensures))
-          (room-first _ _ (bytes start) (text "\n") (room-bytes colon)),
-    )
+    (start .pre .0, room-first _ _ (bytes start) (text "\n") (room-bytes colon))
 
 slice-aggregate-put-text-2 : tie.Need-slice-aggregate-put-text-2
 slice-aggregate-put-text-2 c = search needs
@@ -90,7 +69,7 @@ slice-aggregate-put-text-2 c = search needs
 put-text-requires-2 : tie.Need-put-text-requires-2
 put-text-requires-2 c κs =
     let row = c .before .before .before .before in
-    room-then (text "\n") (bytes-laid row) (room-bytes (row .before .before .before .before .before))
+    room-then (text "\n") (row .put-bytes .ensures) (room-bytes (row .before .before .before .before))
 
 same-length : tie.Need-same-length
 same-length c = search needs
@@ -100,11 +79,11 @@ unfolding lineOf
 returns c =
     let feed = c .before .before in
     let row = feed .before .before .before .before .before in
-    let colon = row .before .before .before .before .before in
+    let colon = row .before .before .before .before in
     let slot = colon .before .before .before .before .before in
-    let from-bytes = laid-then (bytes-laid row) (feed .put-text2 .ensures) (room-bytes colon) in
-    let from-colon = laid-then {l = text ":"} (colon .put-text .ensures) from-bytes (room-colon slot) in
-    laid-then (slot .put-decimal .ensures) from-colon (room-slot (start1 slot))
+    let from-bytes = laid-then (row .put-bytes .ensures) (feed .put-text2 .ensures) in
+    let from-colon = laid-then {l = text ":"} (colon .put-text .ensures) from-bytes in
+    laid-then (slot .put-decimal .ensures) from-colon
 
 pub put-line-spec : {M : Type 1} → statement M
 put-line-spec =
@@ -113,7 +92,6 @@ put-line-spec =
     put-decimal-requires
     slice-aggregate-put-text
     put-text-requires
-    place-requires
     put-bytes-requires
     slice-aggregate-put-text-2
     put-text-requires-2

@@ -6,7 +6,7 @@ use Rattle.model.specs.Tests.{inTurn}
 use Rattle.buffers.specs.Laid.{Laid}
 use Rattle.buffers.proofs.Laid.{laid-none, laid-length, turn-room, turn-laid}
 use Rattle.lines.specs.Lines.{lineAt, linesTo}
-use Rattle.lines.proofs.Rows.{row-within}
+use Rattle.lines.proofs.Rows.{row-of-slot}
 use Rattle.lines.proofs.lines.put_lines.Statement.{statement}
 use Rattle.lines.proofs.lines.put_lines.Tie as tie
 
@@ -27,11 +27,9 @@ put-line-requires c κs =
     let a = start .args in
     let l = c .before .before .loop in
     let inside = c .before .loop-test .taken in
-    let row = row-within (start .pre .0) inside in (
-      row .0,
-      row .1,
-      row .2,
-      turn-room (lineAt (a .plan .now) (a .queues)) (l .slot) (a .slots) refl inside (l .inv .1) (start .pre .1),
+    (
+      row-of-slot (start .pre .0) inside,
+      turn-room (lineAt (a .plan .now) (a .queues)) (l .slot) refl (l .inv .1) (a .slots) inside (start .pre .1),
     )
 
 add-slot : tie.Need-add-slot Inv-loop μ-loop
@@ -47,8 +45,7 @@ loop-again c =
     let a = start .args in
     let l = turn .before .loop in (
       omega arith,
-      turn-laid (lineAt (a .plan .now) (a .queues)) (l .slot) (a .slots) refl (turn .loop-test .taken) (l .inv .1) (start .pre .1)
-          (c .before .before .put-line .ensures),
+      turn-laid (lineAt (a .plan .now) (a .queues)) (l .slot) refl (l .inv .1) (c .before .before .put-line .ensures),
     )
 
 returns : tie.Need-returns Inv-loop μ-loop
@@ -59,7 +56,7 @@ returns c =
     subst (λ n. Laid (a .at) (linesTo (a .plan .now) (a .queues) n) (a .buffer .now) (l .buffer) (l .next)) whole (l .inv .1)
 
 same-length : tie.Need-same-length Inv-loop μ-loop
-same-length c = laid-length (returns c) (c .before .before .before .before .pre .1)
+same-length c = laid-length (returns c)
 
 pub put-lines-spec : {M : Type 1} → statement M
 put-lines-spec =
