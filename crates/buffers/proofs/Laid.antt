@@ -27,6 +27,14 @@ laid-length {at = at} {l = l} {before = before} laid h =
     ap length (laid .buffer-is) ∙
     simp (length-append, length-drop, length-take-le at before (omega arith)) (omega arith)
 
+-- the place that follows is as far behind the first as the list is long
+pub laid-next : {at next : ℕ} {l before after : List ℕ} → Laid at l before after next → next ≡ at + length l
+laid-next laid = laid .next-is
+
+-- what is laid from the first place on stands there, up to the place that follows
+pub laid-front : {next : ℕ} {l before after : List ℕ} → Laid 0 l before after next → take next after ≡ l
+laid-front {l = l} laid = rw (laid .buffer-is, laid .next-is, zero-add) (take-append-seam l _)
+
 -- a list laid where two lists meet
 laid-seam : (front back m : List ℕ) (at : ℕ) → length front ≡ at → laid at m (front ++ back) ≡ front ++ (m ++ drop (length m) back)
 laid-seam front back m at e = rw (← e, take-append-seam, drop-append-add)

@@ -19,18 +19,6 @@ use Rattle.writer.specs.Short.{SpeedShort, JobShort}
 
 -- one number's code
 
--- one byte below 128
-pub code-one : (x : ℕ) → x < 128 → length (code x) ≡ 1
-code-one x h = rw (length-code x, lt-ltb x 128 h)
-
--- two bytes from there below 128 * 128
-pub code-two : (x : ℕ) → 128 ≤ x → x < 16384 → length (code x) ≡ 2
-code-two x h k = rw (length-code x, le-ltb x 128 h, lt-ltb x 16384 k)
-
--- three from there on
-pub code-three : (x : ℕ) → 16384 ≤ x → length (code x) ≡ 3
-code-three x h = rw (length-code x, le-ltb x 128 (omega arith), le-ltb x 16384 h)
-
 chosen-upto : (a b : Bool) → cond a 1 (cond b 2 3) ≤ 3
 chosen-upto true b = omega arith
 chosen-upto false true = omega arith

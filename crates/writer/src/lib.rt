@@ -1,6 +1,7 @@
 // The writer: a sheet's bytes into a lent buffer. How long they are is worked out first, so that a refused write touches nothing. Its call
 // takes any sheet in memory and any buffer. What it refuses, it refuses with a number.
 use counts::table;
+use decimals::put_text;
 use model::Job;
 use model::Sheet;
 use model::Speed;
@@ -19,61 +20,6 @@ ghost use Rattle.model.specs.Refusal.{fieldsRefusal};
 pub struct Written {
     pub number: u32,
     pub length: usize,
-}
-
-// How many bytes a number takes.
-fn code_length(x: u32) -> usize
-    ensures { λ r. ⌜ r ≡ length (code x) ⌝ }
-{
-    if x < 128 {
-        return 1;
-    }
-    if x < 16384 {
-        return 2;
-    }
-    3
-}
-
-// How many bytes the speeds take.
-fn speeds_length(sheet: Sheet) -> usize
-    requires { ⌜ fieldsRefusal (counted sheet) ≡ 0 ⌝ }
-    ensures { λ r. ⌜ r ≡ length (speedBytes (counted sheet) (sheet .«speed_count»)) ⌝ }
-{
-    let mut all = 0;
-    let mut place = 0;
-    while place < sheet.speed_count {
-        let one = sheet.speeds[place as usize];
-        all += code_length(one.speed) + code_length(one.energy);
-        place += 1;
-    }
-    all
-}
-
-// How many bytes the jobs take.
-fn jobs_length(sheet: Sheet) -> usize
-    requires { ⌜ fieldsRefusal (counted sheet) ≡ 0 ⌝ }
-    ensures { λ r. ⌜ r ≡ length (jobBytes (counted sheet) (sheet .«job_count»)) ⌝ }
-{
-    let mut all = 0;
-    let mut place = 0;
-    while place < sheet.job_count {
-        let one = sheet.jobs[place as usize];
-        all += code_length(one.weight) + code_length(one.size) + code_length(one.deadline);
-        place += 1;
-    }
-    all
-}
-
-// How many bytes the sheet takes.
-fn sheet_length(sheet: Sheet) -> usize
-    requires { ⌜ fieldsRefusal (counted sheet) ≡ 0 ⌝ }
-    ensures { λ r. ⌜ r ≡ length (sheetBytes (counted sheet)) ⌝ }
-{
-    let before = code_length(sheet.bound) + code_length(sheet.speed_count);
-    let speeds = speeds_length(sheet);
-    let between = code_length(sheet.horizon) + code_length(sheet.job_count);
-    let jobs = jobs_length(sheet);
-    before + speeds + between + jobs
 }
 
 // Writes a number of at most `most` bytes at a place; answers the next place.
@@ -159,7 +105,8 @@ fn put_sheet(buffer: &mut [u8], sheet: Sheet) -> usize
     put_jobs(buffer, at_jobs, sheet)
 }
 
-// Writes a sheet.
+// Writes a sheet. Its bytes are put into an array of its own first, so that a buffer without room for them is left alone. A sheet has at
+// most 118 numbers of three bytes each: four, two for each of nine speeds, three for each of 32 jobs.
 pub fn write(sheet: Sheet, buffer: &mut [u8]) -> Written
     ensures { λ r. ⌜ IsWritten (counted sheet) (now (buffer .entry)) (r .number) (r .length) (now (buffer .exit)) ⌝ }
 {
@@ -168,12 +115,14 @@ pub fn write(sheet: Sheet, buffer: &mut [u8]) -> Written
     if number != 0 {
         return Written { number, length: 0 };
     }
-    if buffer.len() < sheet_length(sheet) {
+    let mut bytes = [0; 354];
+    let end = put_sheet(&mut bytes, sheet);
+    if buffer.len() < end {
         return Written {
             number: 11,
             length: 0,
         };
     }
-    let length = put_sheet(buffer, sheet);
+    let length = put_text(buffer, 0, &bytes[..end]);
     Written { number: 0, length }
 }
