@@ -86,6 +86,37 @@ module _ (f : ℕ → List ℕ) (j n : ℕ) {l : List ℕ} (here : f j ≡ l) (i
   unfolding inTurn
   turn-laid second = rw (add-one, here) (laid-then first second turn-first)
 
+-- how far a loop, or a row of calls, over n lists in turn has come: there is room for all, and the first j are laid
+pub record LaidTo (f : ℕ → List ℕ) (n at : ℕ) (before : List ℕ) (j : ℕ) (between : List ℕ) (next : ℕ) : Type 0 where
+  pub upto : j ≤ n
+  pub room : at + length (inTurn f n) ≤ length before
+  pub first : Laid at (inTurn f j) before between next
+
+-- it begins with none
+pub laid-to-none : {f : ℕ → List ℕ} {n at : ℕ} {before : List ℕ} → at + length (inTurn f n) ≤ length before →
+    LaidTo f n at before 0 before at
+unfolding inTurn
+laid-to-none room = record { upto = omega arith; room = room; first = laid-none _ _ }
+
+module _ {f : ℕ → List ℕ} {n at : ℕ} {before : List ℕ} {j : ℕ} {between : List ℕ} {next : ℕ} (to : LaidTo f n at before j between next) where
+  -- the length of the buffer is kept
+  pub laid-to-length : length between ≡ length before
+  laid-to-length = laid-length (to .first) (omega (arith, turn-upto f j n (to .upto)))
+
+  -- the list l that comes next has room
+  pub laid-to-room : {l : List ℕ} → f j ≡ l → j < n → next + length l ≤ length between
+  laid-to-room here inside = turn-room f j n here inside (to .first) (to .room)
+
+  -- once it is laid, one list more is
+  pub laid-to-more : {l after : List ℕ} {last : ℕ} → f j ≡ l → j < n → Laid next l between after last →
+      LaidTo f n at before (j + 1) after last
+  laid-to-more here inside second =
+      record { upto = omega arith; room = to .room; first = turn-laid f j n here inside (to .first) (to .room) second }
+
+  -- at the end all are
+  pub laid-to-whole : n ≤ j → Laid at (inTurn f n) before between next
+  laid-to-whole h = let whole : j ≡ n = omega arith in rw whole at (to .first)
+
 -- what is laid from the first place on is what a call writes that is not refused
 pub laid-written : {bytes before after : List ℕ} {next : ℕ} (tested : ℕ) → tested ≡ 0 → Laid 0 bytes before after next →
     Wrote (written tested bytes before) 0 next after
