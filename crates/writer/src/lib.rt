@@ -1,5 +1,5 @@
-// The writer: a sheet's bytes into a lent buffer. How long they are is worked out first, so that a refused write touches nothing. Its call
-// takes any sheet in memory and any buffer. What it refuses, it refuses with a number.
+// The writer: a sheet's bytes into a lent buffer. They are put into an array of its own first, so that a refused write touches nothing. Its
+// call takes any sheet in memory and any buffer. What it refuses, it refuses with a number.
 use counts::table;
 use decimals::put_text;
 use model::Job;
@@ -8,6 +8,7 @@ use model::Speed;
 use sheets::sheet_refusal;
 ghost use mathlib.Core.Path.{_≡_};
 ghost use Prim.Native.Nat.{_+_, _^_, _≤_, _<_};
+ghost use mathlib.Core.List.{_++_};
 ghost use lib.ListN.{length};
 ghost use Rattle.writer.specs.Calls.{IsWritten};
 ghost use Rattle.buffers.specs.Laid.{Laid};
@@ -43,13 +44,21 @@ fn put(buffer: &mut [u8], at: usize, x: u32) -> usize
     put_in(3, buffer, at, x)
 }
 
+// Writes a number and another behind it.
+fn put_two(buffer: &mut [u8], at: usize, x: u32, y: u32) -> usize
+    requires { ⌜ (x < 128 ^ 3) × (y < 128 ^ 3) × (at + length (code x ++ code y) ≤ length (now buffer)) ⌝ }
+    ensures { λ r. ⌜ Laid at (code x ++ code y) (now (buffer .entry)) (now (buffer .exit)) r ⌝ }
+{
+    let next = put(buffer, at, x);
+    put(buffer, next, y)
+}
+
 // Writes a speed, then its energy.
 fn put_speed(buffer: &mut [u8], at: usize, one: Speed) -> usize
     requires { ⌜ SpeedShort one × (at + length (speedCode one) ≤ length (now buffer)) ⌝ }
     ensures { λ r. ⌜ Laid at (speedCode one) (now (buffer .entry)) (now (buffer .exit)) r ⌝ }
 {
-    let next = put(buffer, at, one.speed);
-    put(buffer, next, one.energy)
+    put_two(buffer, at, one.speed, one.energy)
 }
 
 // Writes the speeds.
@@ -72,9 +81,8 @@ fn put_job(buffer: &mut [u8], at: usize, one: Job) -> usize
     requires { ⌜ JobShort one × (at + length (jobCode one) ≤ length (now buffer)) ⌝ }
     ensures { λ r. ⌜ Laid at (jobCode one) (now (buffer .entry)) (now (buffer .exit)) r ⌝ }
 {
-    let next = put(buffer, at, one.weight);
-    let after = put(buffer, next, one.size);
-    put(buffer, after, one.deadline)
+    let next = put_two(buffer, at, one.weight, one.size);
+    put(buffer, next, one.deadline)
 }
 
 // Writes the jobs.
@@ -97,16 +105,14 @@ fn put_sheet(buffer: &mut [u8], sheet: Sheet) -> usize
     requires { ⌜ (fieldsRefusal (counted sheet) ≡ 0) × (length (sheetBytes (counted sheet)) ≤ length (now buffer)) ⌝ }
     ensures { λ r. ⌜ Laid 0 (sheetBytes (counted sheet)) (now (buffer .entry)) (now (buffer .exit)) r ⌝ }
 {
-    let at_speed_count = put(buffer, 0, sheet.bound);
-    let at_speeds = put(buffer, at_speed_count, sheet.speed_count);
+    let at_speeds = put_two(buffer, 0, sheet.bound, sheet.speed_count);
     let at_horizon = put_speeds(buffer, at_speeds, sheet);
-    let at_job_count = put(buffer, at_horizon, sheet.horizon);
-    let at_jobs = put(buffer, at_job_count, sheet.job_count);
+    let at_jobs = put_two(buffer, at_horizon, sheet.horizon, sheet.job_count);
     put_jobs(buffer, at_jobs, sheet)
 }
 
-// Writes a sheet. Its bytes are put into an array of its own first, so that a buffer without room for them is left alone. A sheet has at
-// most 118 numbers of three bytes each: four, two for each of nine speeds, three for each of 32 jobs.
+// Writes a sheet. The array has room for 118 numbers of three bytes: D, the count of speeds, T and the count of jobs, two for each of nine
+// speeds and three for each of 32 jobs. (By the ranges of the fields a sheet takes 201 bytes at most; three for every number is less to prove.)
 pub fn write(sheet: Sheet, buffer: &mut [u8]) -> Written
     ensures { λ r. ⌜ IsWritten (counted sheet) (now (buffer .entry)) (r .number) (r .length) (now (buffer .exit)) ⌝ }
 {
