@@ -5,7 +5,7 @@ use mathlib.Core.List.{List, [], _∷_, _++_, append-assoc}
 use native.Mathlib.Nat.{add-zero, zero-add, add-assoc}
 use native.Mathlib.Numerals.{add-one}
 use native.Mathlib.Omega.{arith}
-use lib.ListN.{length, take, drop, set, length-append, length-drop, take-append-drop}
+use lib.ListN.{length, take, drop, set, length-set, length-append, length-drop, take-append-drop}
 use lib.Seq.{length-take-le, set-split, take-append-seam, drop-append-add, drop-drop}
 use Rattle.model.specs.Bytes.{written, Wrote}
 use Rattle.model.specs.Tests.{inTurn}
@@ -67,6 +67,38 @@ pub room-then : {at next : ℕ} {l before between : List ℕ} (m : List ℕ) →
     at + length (l ++ m) ≤ length before → next + length m ≤ length between
 room-then {l = l} m first h =
     omega (arith, length-append l m, first .next-is, laid-length first (omega (arith, length-append l m)))
+
+-- what a function knows that stores one byte of a list for which there is room: the byte alone, the byte and then others, others and then the
+-- byte
+
+module _ (at : ℕ) {l : List ℕ} (buffer : List ℕ) (room : at + length l ≤ length buffer) where
+  module _ {b : ℕ} {others : List ℕ} (e : l ≡ b ∷ others) where
+    -- alone or before others: its place is inside
+    pub byte-inside : at < length buffer
+    byte-inside = omega (arith, ap length e)
+
+    -- .. the others have room, whatever byte is stored
+    pub byte-then-room : (byte : ℕ) → at + 1 + length others ≤ length (set buffer at byte)
+    byte-then-room byte = simp length-set (omega (arith, ap length e))
+
+    -- .. and once it is stored and they are laid, the list is laid
+    pub byte-then-laid : {after : List ℕ} {next : ℕ} → Laid (at + 1) others (set buffer at b) after next → Laid at l buffer after next
+    byte-then-laid second = rw e (laid-then (laid-one at b buffer byte-inside) second (rw e at room))
+
+  -- alone: once it is stored, the list is laid
+  pub byte-laid : {b : ℕ} → l ≡ b ∷ [] → Laid at l buffer (set buffer at b) (at + 1)
+  byte-laid {b = b} e = rw e (laid-one at b buffer (byte-inside e))
+
+  module _ (others : List ℕ) (b : ℕ) (e : l ≡ others ++ b ∷ []) where
+    -- behind others: once they are laid, its place is inside
+    pub then-byte-inside : {between : List ℕ} {next : ℕ} → Laid at others buffer between next → next < length between
+    then-byte-inside first = omega (arith, room-then (b ∷ []) first (rw e at room))
+
+    -- .. and once it is stored too, the list is laid
+    pub then-byte-laid : {between : List ℕ} {next : ℕ} → Laid at others buffer between next →
+        Laid at l buffer (set between next b) (next + 1)
+    then-byte-laid {between = between} {next = next} first =
+        rw e (laid-then first (laid-one next b between (then-byte-inside first)) (rw e at room))
 
 -- what a loop over lists in turn knows at place j of n, where the list l stands
 
