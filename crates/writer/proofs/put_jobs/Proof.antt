@@ -1,4 +1,5 @@
--- `put_jobs` meets its contract. The loop's invariant: there are at most 32 jobs, and the jobs passed are laid. Each has room, since all of them have.
+-- `put_jobs` meets its contract. The loop's invariant: there are at most 32 jobs, and those passed are laid. Each has room, since all of them
+-- have.
 use Prim.Native.Nat.{_-_, _≤_}
 use mathlib.Core.Path.{ap, subst}
 use native.Mathlib.Omega.{arith}
