@@ -19,14 +19,15 @@ use Rattle.model.proofs.Queues.{length-arrive, listed-bearable}
 use Rattle.model.proofs.Refusal.{W-is}
 use Rattle.model.proofs.Tests.{same-test}
 use Rattle.queues.specs.Blocks.{queueWith}
-use Rattle.slot.proofs.Slots.{length-kept, arrive-not-bearable}
-use Rattle.value.specs.Fills.{Fills}
-use Rattle.value.specs.Width.{Width, readAt, Below}
-use Rattle.value.proofs.Decoding.{below-limit}
-use Rattle.value.proofs.Filling.{fills-same}
+use Rattle.slot.proofs.Slots.{length-twice, arrive-not-bearable}
+use Rattle.buffers.specs.Fills.{Fills}
+use Rattle.model.specs.Width.{Width, valueIn}
+use Rattle.value.specs.Values.{Fits}
+use Rattle.value.proofs.Decoding.{bound-fits}
+use Rattle.buffers.proofs.Filling.{fills-same}
 use Rattle.rows.specs.Rows.{valueInRow, afterWith, RowOf}
-use Rattle.rows.specs.Sizes.{Measured}
-use Rattle.rows.specs.declared.sizes.Sizes.{Sizes}
+use Rattle.sheets.specs.Sizes.{Measured}
+use Rattle.sheets.specs.declared.sizes.Sizes.{Sizes}
 use Rattle.rows.proofs.Rows.{row-says}
 use Rattle.entry_lanes.specs.Lanes.{joined, EntryTable}
 use Rattle.ahead.specs.Pass.{Given, sumLeft}
@@ -65,7 +66,7 @@ module _ (width : Width) (s : Counted) {sizes : Sizes} (m : Measured sizes) (f :
     (row : RowOf width (sizes .largest) (sizes .bound) f next values) where
   after-long : (i : ℕ) → i < sizes .after → length (afterWith (sizes .largest) (sizes .bound) i) ≡ sizes .bound
   after-long i h =
-      length-kept (queueWith (sizes .largest) (pred (sizes .bound)) i) ∙
+      length-twice (queueWith (sizes .largest) (pred (sizes .bound)) i) ∙
       omega (arith, listed-bearable (sizes .largest) (pred (sizes .bound)) i (omega (arith, m .after-is)) .0, m .bound-low)
 
   -- what the pass adds up is what the function gives
@@ -76,24 +77,24 @@ module _ (width : Width) (s : Counted) {sizes : Sizes} (m : Measured sizes) (f :
       (λ j. row-says width (sizes .largest) (sizes .bound) f next values row (joined s v j)
       (length-arrive v (sizeAt s j) (deadlineAt s j) ∙ after-long i h))
 
-  -- what it is given, where the function's bound times W is below the limit of a value
+  -- what it is given, where the function's bound times W passes no limit of a value
   pub given-for : {lanes : List ℕ} (most : ℕ) → fieldsRefusal s ≡ 0 → EntryTable (sizes .largest) (sizes .bound) s lanes →
-      ((w : Queue) → UptoOr (Unit {0}) (f w) most) → most * W s < width .limit → Given width s sizes lanes next values
+      ((w : Queue) → UptoOr (Unit {0}) (f w) most) → most * W s ≤ width .limit → Given width s sizes lanes next values
   given-for most fields table upto low =
       record {
         fields = fields;
         measured = m;
         table = table;
-        room = subst (λ (n : ℕ). (next + n) * width .places ≤ length values) (sym (m .queues-is)) (row .stands .room);
+        room = subst (λ (n : ℕ). (next + n) * width .places ≤ length values) (sym (m .queues-is)) (row .row .room);
         fits = λ i n h k.
-            subst (λ (r : Option ℕ). Below (width .limit) r) (sym (sums-told i n h))
-            (below-limit (sumTo s f (afterWith (sizes .largest) (sizes .bound) i) n)
+            subst (Fits width) (sym (sums-told i n h))
+            (bound-fits width (sumTo s f (afterWith (sizes .largest) (sizes .bound) i) n)
             (sums-upto s f most upto (afterWith (sizes .largest) (sizes .bound) i) n k) low);
       }
 
   -- what it leaves: the sums of the function
   pub left-for : {ahead₀ ahead : List ℕ} →
-      Fills (width .places) (readAt width) (λ i. sumLeft width s sizes next values i (s .jobCount)) 0 (sizes .after) ahead₀ ahead →
-      Fills (width .places) (readAt width) (λ i. sumTo s f (afterWith (sizes .largest) (sizes .bound) i) (s .jobCount)) 0 (sizes .after)
+      Fills (width .places) (valueIn width) (λ i. sumLeft width s sizes next values i (s .jobCount)) 0 (sizes .after) ahead₀ ahead →
+      Fills (width .places) (valueIn width) (λ i. sumTo s f (afterWith (sizes .largest) (sizes .bound) i) (s .jobCount)) 0 (sizes .after)
       ahead₀ ahead
-  left-for = fills-same (width .places) (readAt width) (λ i h. sums-told i (s .jobCount) h)
+  left-for = fills-same (width .places) (valueIn width) (λ i h. sums-told i (s .jobCount) h)

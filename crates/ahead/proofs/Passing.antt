@@ -15,18 +15,18 @@ use Rattle.model.proofs.Queues.{length-arrive, listed-bearable, number-below}
 use Rattle.model.proofs.Refusal.{Ranged, ranged}
 use Rattle.model.proofs.Tests.{holds-true}
 use Rattle.queues.specs.Blocks.{queueWith, firstOf, startOf, lowestOf, lastOf, InBlock, InBlocks, risen}
-use Rattle.slot.specs.Slot.{kept}
+use Rattle.slot.specs.Slot.{lastTwice}
 use Rattle.queues.proofs.Blocks.{block-place, risen-upto}
-use Rattle.slot.proofs.Slots.{length-kept, last-kept}
-use Rattle.value.specs.Fills.{Fills, FillsWhere}
-use Rattle.value.specs.Width.{Width, readAt}
-use Rattle.value.proofs.Filling.{read-local}
+use Rattle.slot.proofs.Slots.{length-twice, last-twice}
+use Rattle.buffers.specs.Fills.{Fills, FillsWhere}
+use Rattle.model.specs.Width.{Width, valueIn}
+use Rattle.buffers.proofs.Filling.{value-local}
 use Rattle.rows.specs.Rows.{valueInRow, afterWith}
-use Rattle.rows.specs.Sizes.{Measured}
+use Rattle.sheets.specs.Sizes.{Measured}
 use Rattle.rows.specs.Tables.{lineAt}
-use Rattle.rows.specs.declared.sizes.Sizes.{Sizes}
+use Rattle.sheets.specs.declared.sizes.Sizes.{Sizes}
 use Rattle.rows.proofs.Blocks.{block-none, block-more, blocks-none, blocks-more, blocks-whole}
-use Rattle.rows.proofs.Measures.{most-total}
+use Rattle.rows.proofs.Room.{most-total}
 use Rattle.rows.proofs.Rows.{none-in-row, read-in-row}
 use Rattle.rows.proofs.Tables.{line-within}
 use Rattle.entry_lanes.specs.Lanes.{firstAfter, joined, liftOf, stepsTo, laneOf, Lane}
@@ -112,7 +112,7 @@ module _ {width : Width} {s : Counted} {sizes : Sizes} {lanes : List ℕ} {next 
         let v = firstOf M (pred D) b in
         let is = first-of M (pred D) b block-low in
         let more : D ≡ suc (length v) = omega (arith, is .0, given .measured .bound-low) in
-        ap (total (kept v)) more ∙ last-kept v ∙ ap (total v) (is .0) ∙ is .2
+        ap (total (lastTwice v)) more ∙ last-twice v ∙ ap (total v) (is .0) ∙ is .2
 
     module _ (k : ℕ) (inside : Within sizes b k) where
       abbrev v : Queue
@@ -156,12 +156,12 @@ module _ {width : Width} {s : Counted} {sizes : Sizes} {lanes : List ℕ} {next 
         number-joined =
             let short = listed-bearable M (pred D) (stepped sizes b k) (placed .0 .within) .0 in
             let long : length (joined s v j) ≡ D =
-            length-arrive v (sizeAt s j) (deadlineAt s j) ∙ length-kept (queueWith M (pred D) (stepped sizes b k)) ∙
+            length-arrive v (sizeAt s j) (deadlineAt s j) ∙ length-twice (queueWith M (pred D) (stepped sizes b k)) ∙
             omega (arith, short, given .measured .bound-low) in
             omega (arith, number-below M (joined s v j) long (goes .0), given .measured .queues-is)
 
         -- and of which the row says what stands at that number
-        pub value-joined : valueInRow width M values next (joined s v j) ≡ readAt width values (next + numberOf M (joined s v j))
+        pub value-joined : valueInRow width M values next (joined s v j) ≡ valueIn width values (next + numberOf M (joined s v j))
         value-joined = read-in-row width M values next (joined s v j) (holds-true (bearable M (joined s v j)) (goes .0))
 
       -- a lane has not risen far
@@ -175,7 +175,7 @@ module _ {width : Width} {s : Counted} {sizes : Sizes} {lanes : List ℕ} {next 
 
 module _ (width : Width) (sizes : Sizes) (f : ℕ → Option ℕ) where
   abbrev Done : (ℕ → Type 0) → List ℕ → List ℕ → Type 0
-  Done done ahead₀ ahead = FillsWhere (width .places) (readAt width) f 0 done ahead₀ ahead
+  Done done ahead₀ ahead = FillsWhere (width .places) (valueIn width) f 0 done ahead₀ ahead
 
   module _ (b : ℕ) (h : b < queueCount (sizes .largest) (pred (pred (sizes .bound)))) where
     -- in a block nothing is filled below its lowest last total
@@ -183,17 +183,17 @@ module _ (width : Width) (sizes : Sizes) (f : ℕ → Option ℕ) where
         Done (InBlock (sizes .largest) (pred (sizes .bound)) b x) l l
     ahead-none x l e =
         subst (λ (y : ℕ). Done (InBlock (sizes .largest) (pred (sizes .bound)) b y) l l) (sym e)
-        (block-none (width .places) (readAt width) (read-local width) (sizes .largest) (pred (sizes .bound)) f 0 b h l)
+        (block-none (width .places) (valueIn width) (value-local width) (sizes .largest) (pred (sizes .bound)) f 0 b h l)
 
     -- one queue more
     pub ahead-more : (k n : ℕ) {r : Option ℕ} {l₀ l₁ l₂ : List ℕ} → Within sizes b k → n ≡ stepped sizes b k → r ≡ f (stepped sizes b k) →
         Done (InBlock (sizes .largest) (pred (sizes .bound)) b (lowestOf (sizes .largest) (pred (sizes .bound)) b + k)) l₀ l₁ →
-        Fills (width .places) (readAt width) (λ i. r) n 1 l₁ l₂ →
+        Fills (width .places) (valueIn width) (λ i. r) n 1 l₁ l₂ →
         Done (InBlock (sizes .largest) (pred (sizes .bound)) b (lowestOf (sizes .largest) (pred (sizes .bound)) b + (k + 1))) l₀ l₂
     ahead-more k n {l₀ = l₀} {l₂ = l₂} inside e same so-far stored =
         let lowest = lowestOf (sizes .largest) (pred (sizes .bound)) b in
         subst (λ (y : ℕ). Done (InBlock (sizes .largest) (pred (sizes .bound)) b y) l₀ l₂) (omega arith)
-        (block-more (width .places) (readAt width) (read-local width) (sizes .largest) (pred (sizes .bound)) f 0 b h (lowest + k)
+        (block-more (width .places) (valueIn width) (value-local width) (sizes .largest) (pred (sizes .bound)) f 0 b h (lowest + k)
         (stepped sizes b k) (omega arith) (inside .steps-high) (omega arith) (omega arith) same so-far stored)
 
     -- one block more
@@ -201,16 +201,16 @@ module _ (width : Width) (sizes : Sizes) (f : ℕ → Option ℕ) where
         Done (InBlocks (sizes .largest) (pred (sizes .bound)) b) l₀ l₁ → Done (InBlock (sizes .largest) (pred (sizes .bound)) b x) l₁ l₂ →
         Done (InBlocks (sizes .largest) (pred (sizes .bound)) (b + 1)) l₀ l₂
     ahead-block x high so-far block =
-        blocks-more (width .places) (readAt width) (read-local width) (sizes .largest) (pred (sizes .bound)) f 0 b x h high so-far block
+        blocks-more (width .places) (valueIn width) (value-local width) (sizes .largest) (pred (sizes .bound)) f 0 b x h high so-far block
 
   -- in no block anything is filled
   pub ahead-begun : (l : List ℕ) → Done (InBlocks (sizes .largest) (pred (sizes .bound)) 0) l l
-  ahead-begun l = blocks-none (width .places) (readAt width) (read-local width) (sizes .largest) (pred (sizes .bound)) f 0 l
+  ahead-begun l = blocks-none (width .places) (valueIn width) (value-local width) (sizes .largest) (pred (sizes .bound)) f 0 l
 
   -- after the last block all is
   pub ahead-whole : Measured sizes → (b : ℕ) {l₀ l : List ℕ} → b ≡ sizes .blocks →
       Done (InBlocks (sizes .largest) (pred (sizes .bound)) b) l₀ l →
-      Fills (width .places) (readAt width) f 0 (sizes .after) l₀ l
+      Fills (width .places) (valueIn width) f 0 (sizes .after) l₀ l
   ahead-whole m b all filled =
-      blocks-whole (width .places) (readAt width) (read-local width) (sizes .largest) (pred (sizes .bound)) f 0 b (sizes .after)
+      blocks-whole (width .places) (valueIn width) (value-local width) (sizes .largest) (pred (sizes .bound)) f 0 b (sizes .after)
       (all ∙ m .blocks-is) (m .after-is) filled

@@ -7,10 +7,11 @@ use lib.ListN.{length}
 use Rattle.model.specs.Counted.{Counted}
 use Rattle.model.specs.Refusal.{fieldsRefusal}
 use Rattle.queues.specs.Blocks.{startOf, lowestOf, risen}
-use Rattle.value.specs.Width.{Width, Below}
+use Rattle.model.specs.Width.{Width}
+use Rattle.value.specs.Values.{Fits}
 use Rattle.rows.specs.Rows.{valueInRow, afterWith}
-use Rattle.rows.specs.Sizes.{Measured}
-use Rattle.rows.specs.declared.sizes.Sizes.{Sizes}
+use Rattle.sheets.specs.Sizes.{Measured}
+use Rattle.sheets.specs.declared.sizes.Sizes.{Sizes}
 use Rattle.entry_lanes.specs.Lanes.{firstAfter, stepsTo, EntryTable}
 use Rattle.ahead.specs.Sums.{sumTo}
 
@@ -26,7 +27,7 @@ pub record Given (width : Width) (s : Counted) (sizes : Sizes) (lanes : List ℕ
   pub measured : Measured sizes
   pub table : EntryTable (sizes .largest) (sizes .bound) s lanes
   pub room : (next + sizes .queues) * width .places ≤ length values
-  pub fits : (i n : ℕ) → i < sizes .after → n ≤ s .jobCount → Below (width .limit) (sumLeft width s sizes next values i n)
+  pub fits : (i n : ℕ) → i < sizes .after → n ≤ s .jobCount → Fits width (sumLeft width s sizes next values i n)
 
 -- so many steps from its first queue on block b has a queue
 pub record Within (sizes : Sizes) (b k : ℕ) : Type 0 where

@@ -1,15 +1,15 @@
 // What is ahead of every queue after a slot, block by block.
 use crate::sums::sum_at;
 use model::Sheet;
-use rows::Sizes;
 use rows::line_at;
+use sheets::Sizes;
 ghost use Prim.Native.Nat.{suc, pred, _+_, _*_, _≤_, _<_};
 ghost use lib.ListN.{length};
 ghost use Rattle.model.specs.Counted.{counted};
 ghost use Rattle.queues.specs.Blocks.{InBlock};
-ghost use Rattle.value.specs.Fills.{Fills, FillsWhere};
+ghost use Rattle.buffers.specs.Fills.{Fills, FillsWhere};
 ghost use Rattle.value.specs.Narrow.{width};
-ghost use Rattle.value.specs.Width.{readAt};
+ghost use Rattle.model.specs.Width.{valueIn};
 ghost use Rattle.ahead.specs.Pass.{Given, sumLeft};
 
 // The queues of a block.
@@ -24,7 +24,7 @@ fn fill_block(
 )
     requires { ⌜ Given width (counted sheet) sizes (now lanes) next (now values) × (block < sizes .blocks) ×
         (sizes .after * width .places ≤ length (now ahead)) ⌝ }
-    ensures { λ r. ⌜ FillsWhere (width .places) (readAt width)
+    ensures { λ r. ⌜ FillsWhere (width .places) (valueIn width)
         (λ i. sumLeft width (counted sheet) sizes next (now (values .entry)) i (sheet .«job_count»)) 0
         (InBlock (sizes .largest) (pred (sizes .bound)) block (suc (pred (sizes .bound) * sizes .largest)))
         (now (ahead .entry)) (now (ahead .exit)) ⌝ }
@@ -53,7 +53,7 @@ pub fn fill(
     ahead: &mut [u64],
 )
     requires { ⌜ Given width (counted sheet) sizes (now lanes) next (now values) × (sizes .after * width .places ≤ length (now ahead)) ⌝ }
-    ensures { λ r. ⌜ Fills (width .places) (readAt width)
+    ensures { λ r. ⌜ Fills (width .places) (valueIn width)
         (λ i. sumLeft width (counted sheet) sizes next (now (values .entry)) i (sheet .«job_count»)) 0
         (sizes .after) (now (ahead .entry)) (now (ahead .exit)) ⌝ }
 {

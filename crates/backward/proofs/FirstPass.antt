@@ -10,16 +10,15 @@ use Rattle.process.specs.Recursion.{only, worth}
 use Rattle.model.specs.Counted.{Counted, M}
 use Rattle.model.specs.Plan.{queueAt}
 use Rattle.model.specs.Queue.{Queue, bearable}
-use Rattle.model.specs.Refusal.{valueLimit}
 use Rattle.laws.proofs.Recursion as recursion
 use Rattle.model.proofs.Refusal.{Accepted, accepted, fields-right, N-is}
-use Rattle.value.specs.Fills.{Fills}
-use Rattle.value.specs.Width.{Width, readAt}
-use Rattle.value.proofs.Filling.{fills-same}
+use Rattle.buffers.specs.Fills.{Fills}
+use Rattle.model.specs.Width.{Width, valueIn}
+use Rattle.buffers.proofs.Filling.{fills-same}
 use Rattle.rows.specs.Rows.{afterWith, Row, RowOf}
-use Rattle.rows.specs.Sizes.{Sized}
-use Rattle.rows.specs.declared.sizes.Sizes.{Sizes}
-use Rattle.rows.proofs.Measures.{sized-same, measured}
+use Rattle.sheets.specs.Sizes.{Sized}
+use Rattle.sheets.specs.declared.sizes.Sizes.{Sizes}
+use Rattle.sheets.proofs.Measures.{sized-same, measured}
 use Rattle.entry_lanes.specs.Lanes.{EntryTable}
 use Rattle.ahead.specs.Pass.{Given, sumLeft}
 use Rattle.ahead.proofs.AnyRow.{given-for, left-for}
@@ -52,9 +51,9 @@ module _ (s : Counted) where
 
 -- what the first pass is given, and what it leaves
 
-module _ (width : Width) (roomy : valueLimit < width .limit) {counts : List ℕ} {s : Counted} {sizes : Sizes} {left : ℕ} {scale : Option ℕ}
-    (ready : Ready counts s sizes left scale) {next : ℕ} {values : List ℕ} (row : ValueRow width s left next values) where
-  abbrev is-accepted : Accepted s
+module _ (width : Width) {counts : List ℕ} {s : Counted} {sizes : Sizes} {left : ℕ} {scale : Option ℕ}
+    (ready : Ready width counts s sizes left scale) {next : ℕ} {values : List ℕ} (row : ValueRow width s left next values) where
+  abbrev is-accepted : Accepted (width .limit) s
   is-accepted = accepted s (ready .prepared .accepted)
 
   abbrev sized : Sized s sizes
@@ -65,20 +64,20 @@ module _ (width : Width) (roomy : valueLimit < width .limit) {counts : List ℕ}
   value-row =
       subst (λ (p : ℕ × ℕ). RowOf width (p .0) (p .1) (valueWith s left) next values) (sym (sized-same sized (λ m D. (m, D))))
       (record {
-        stands = subst (λ (n : ℕ). Row width (λ i. valueWith s left (queueAt s i)) next n values) (N-is s) row;
+        row = subst (λ (n : ℕ). Row width (λ i. valueWith s left (queueAt s i)) next n values) (N-is s) row;
         strict = not-bearable-none s left;
       })
 
   pub first-given : {lanes : List ℕ} → EntryTable (sizes .largest) (sizes .bound) s lanes → Given width s sizes lanes next values
   first-given table =
       given-for width s (measured s sizes is-accepted sized) (valueWith s left) value-row (most s left)
-      (fields-right s (ready .prepared .accepted)) table (value-upto s left)
-      (ahead-fits s is-accepted width roomy left (ready .in-plan .left-low))
+      (fields-right (width .limit) s (ready .prepared .accepted)) table (value-upto s left)
+      (ahead-fits s is-accepted left (ready .in-plan .left-low))
 
   pub first-left : {ahead₀ ahead : List ℕ} →
-      Fills (width .places) (readAt width) (λ i. sumLeft width s sizes next values i (s .jobCount)) 0 (sizes .after) ahead₀ ahead →
-      Fills (width .places) (readAt width) (λ i. aheadOf s left (queueAfter s i)) 0 (sizes .after) ahead₀ ahead
+      Fills (width .places) (valueIn width) (λ i. sumLeft width s sizes next values i (s .jobCount)) 0 (sizes .after) ahead₀ ahead →
+      Fills (width .places) (valueIn width) (λ i. aheadOf s left (queueAfter s i)) 0 (sizes .after) ahead₀ ahead
   unfolding aheadTo
   first-left fill =
-      fills-same (width .places) (readAt width) (λ i h. sized-same sized (λ m D. aheadOf s left (afterWith m D i)))
+      fills-same (width .places) (valueIn width) (λ i h. sized-same sized (λ m D. aheadOf s left (afterWith m D i)))
       (left-for width s (measured s sizes is-accepted sized) (valueWith s left) value-row fill)

@@ -1,5 +1,4 @@
--- That nothing wraps: every sum over some of the entries, every cost and the scale stay below the limit of a value, at any width whose limit
--- is above that of number 9. No bound stands in a loop's invariant: one induction over the recursion bounds its values (value-most), the
+-- That nothing wraps: no sum over some of the entries, no cost and no scale passes the limit that number 9 tests. No bound stands in a loop's invariant: one induction over the recursion bounds its values (value-most), the
 -- passes carry any bound on (AnyRow.antt of ahead and of choose), and number 9 does the rest.
 use Prim.Native.Nat.{ℕ, suc, _+_, _*_, _^_, _≤_, _<_}
 use mathlib.Core.Path.{sym, ap, _∙_}
@@ -8,11 +7,9 @@ use native.Mathlib.Omega.{arith}
 use Rattle.process.proofs.Value.{UptoOr}
 use Rattle.model.specs.Counted.{Counted, energyAt, speedAt, G, W}
 use Rattle.model.specs.Queue.{Queue}
-use Rattle.model.specs.Refusal.{valueLimit}
 use Rattle.model.proofs.Counted.{energy-of-upto, energy-of-place, on-sheet-at}
 use Rattle.laws.proofs.Recursion.{value-most}
 use Rattle.model.proofs.Refusal.{Accepted, G-covers, W-low, power-fits}
-use Rattle.value.specs.Width.{Width}
 use Rattle.ahead.proofs.AnyRow.{sums-upto}
 use Rattle.backward.specs.Passes.{valueWith, aheadTo, aheadOf}
 
@@ -31,13 +28,11 @@ module _ (s : Counted) where
   unfolding aheadTo
   ahead-upto k v = sums-upto s (valueWith s k) (most k) (value-upto k) v (s .jobCount) (le-refl (s .jobCount))
 
--- at any width that has room for number 9's limit
-module _ (s : Counted) (a : Accepted s) (width : Width) (roomy : valueLimit < width .limit) (k : ℕ) (h : k < s .horizon) where
-  -- what k + 1 slots of the sheet can cost is below the limit
-  most-fits : most s (suc k) < width .limit
-  most-fits =
-      let upto = le-trans (mul-le-mul (mul-le-mul-right (G s) h) (pow-le-pow-right (W-low s (a .ranged)) h)) (a .fits) in
-      omega (arith, roomy)
+-- of a sheet that is accepted by any limit
+module _ (s : Counted) {limit : ℕ} (a : Accepted limit s) (k : ℕ) (h : k < s .horizon) where
+  -- what k + 1 slots of the sheet can cost is within it
+  most-fits : most s (suc k) ≤ limit
+  most-fits = le-trans (mul-le-mul (mul-le-mul-right (G s) h) (pow-le-pow-right (W-low s (a .ranged)) h)) (a .fits)
 
   -- so are what is ahead with k slots left, and what a speed then costs
 
@@ -49,10 +44,10 @@ module _ (s : Counted) (a : Accepted s) (width : Width) (roomy : valueLimit < wi
         mul-le-mul-right (W s ^ suc k) upto,
       )
 
-  pub ahead-fits : most s k * W s < width .limit
+  pub ahead-fits : most s k * W s ≤ limit
   ahead-fits = omega (arith, cost-most 0 (omega arith), most-fits)
 
-  pub cost-fits : (j : ℕ) → j < s .speedCount → most s k * W s + energyAt s j * W s ^ suc k < width .limit
+  pub cost-fits : (j : ℕ) → j < s .speedCount → most s k * W s + energyAt s j * W s ^ suc k ≤ limit
   cost-fits j l =
       let upto : energyAt s j ≤ G s =
       omega (
@@ -64,5 +59,5 @@ module _ (s : Counted) (a : Accepted s) (width : Width) (roomy : valueLimit < wi
       omega (arith, cost-most (energyAt s j) upto, most-fits)
 
   -- and the scale
-  pub scale-fits : W s ^ suc k < width .limit
-  scale-fits = omega (arith, power-fits s a (suc k) h, roomy)
+  pub scale-fits : W s ^ suc k ≤ limit
+  scale-fits = power-fits s a (suc k) h

@@ -12,18 +12,18 @@ use Rattle.process.proofs.Equations.{best-none}
 use Rattle.model.specs.Counted.{Counted, speedAt, energyAt, weightAt, speedsOf, W, M}
 use Rattle.model.specs.Plan.{processOf, queueAt}
 use Rattle.model.specs.Queue.{Queue, total, run}
-use Rattle.model.specs.Refusal.{valueLimit, N}
+use Rattle.model.specs.Refusal.{N}
 use Rattle.model.proofs.Counted.{energy-of-place}
 use Rattle.model.proofs.Queues.{listed-bearable}
 use Rattle.laws.proofs.Recursion.{choice-all, best-speed, priced-speed}
 use Rattle.model.proofs.Refusal.{Accepted, accepted, fields-right, N-is}
 use Rattle.queues.specs.Blocks.{queueWith}
-use Rattle.value.specs.Width.{Width}
-use Rattle.value.proofs.Filling.{fills-same, fills-whole}
+use Rattle.model.specs.Width.{Width}
+use Rattle.buffers.proofs.Filling.{fills-same, fills-whole}
 use Rattle.rows.specs.Rows.{RowAfter}
-use Rattle.rows.specs.Sizes.{Sized}
-use Rattle.rows.specs.declared.sizes.Sizes.{Sizes}
-use Rattle.rows.proofs.Measures.{sized-same, measured}
+use Rattle.sheets.specs.Sizes.{Sized}
+use Rattle.sheets.specs.declared.sizes.Sizes.{Sizes}
+use Rattle.sheets.proofs.Measures.{sized-same, measured}
 use Rattle.ahead.specs.Sums.{sumTo}
 use Rattle.ahead.proofs.AnyRow.{sums-strict}
 use Rattle.speed_lanes.specs.Lanes.{SpeedTable}
@@ -44,7 +44,7 @@ plus-turned : (r : Option ℕ) (m n : ℕ) → plus r (some (m * n)) ≡ plus (s
 plus-turned none m n = refl
 plus-turned (some v) m n = let same : v + m * n ≡ n * m + v = omega arith in ap {B = Option ℕ} some same
 
-module _ (s : Counted) (a : Accepted s) (k : ℕ) (w : Queue) where
+module _ (s : Counted) {limit : ℕ} (a : Accepted limit s) (k : ℕ) (w : Queue) where
   -- it is what it costs by what is ahead
   cost-is : (j : ℕ) → j < s .speedCount → costBy (aheadOf s k) (some (W s ^ suc k)) w (speedAt s j) (energyAt s j) ≡ costOf s k w (speedAt s j)
   unfolding costBy aheadTo sumTo
@@ -70,9 +70,9 @@ module _ (s : Counted) (a : Accepted s) (k : ℕ) (w : Queue) where
 
 -- what the second pass is given, and what it leaves
 
-module _ (width : Width) (roomy : valueLimit < width .limit) {counts : List ℕ} {s : Counted} {sizes : Sizes} {left : ℕ} {scale : Option ℕ}
-    (ready : Ready counts s sizes left scale) {ahead : List ℕ} (row : AheadRow width s left ahead) where
-  abbrev is-accepted : Accepted s
+module _ (width : Width) {counts : List ℕ} {s : Counted} {sizes : Sizes} {left : ℕ} {scale : Option ℕ}
+    (ready : Ready width counts s sizes left scale) {ahead : List ℕ} (row : AheadRow width s left ahead) where
+  abbrev is-accepted : Accepted (width .limit) s
   is-accepted = accepted s (ready .prepared .accepted)
 
   abbrev sized : Sized s sizes
@@ -83,13 +83,13 @@ module _ (width : Width) (roomy : valueLimit < width .limit) {counts : List ℕ}
   unfolding aheadTo
   ahead-row =
       subst (λ (p : ℕ × ℕ). RowAfter width (p .0) (p .1) (aheadOf s left) 0 ahead) (sym (sized-same sized (λ m D. (m, D))))
-      (record { stands = row; strict = sums-strict s (valueWith s left) (M s) (is-accepted .ranged .jobs-low) (not-bearable-none s left) })
+      (record { row = row; strict = sums-strict s (valueWith s left) (M s) (is-accepted .ranged .jobs-low) (not-bearable-none s left) })
 
   pub second-given : {lanes : List ℕ} → SpeedTable (sizes .largest) (sizes .bound) s lanes → Given width s sizes scale lanes ahead
   second-given table =
       given-for width s (measured s sizes is-accepted sized) (aheadOf s left) ahead-row (most s left * W s) (W s ^ suc left)
-      (fields-right s (ready .prepared .accepted)) table (ahead-upto s left) (ready .in-plan .scale-is)
-      (cost-fits s is-accepted width roomy left (ready .in-plan .left-low))
+      (fields-right (width .limit) s (ready .prepared .accepted)) table (ahead-upto s left) (ready .in-plan .scale-is)
+      (cost-fits s is-accepted left (ready .in-plan .left-low))
 
   -- at each queue the recursion's choice
   left-choice : (n : ℕ) → leastBy (aheadOf s left) s scale (queueWith (sizes .largest) (sizes .bound) n) ≡ choiceWith s left (queueAt s n)

@@ -7,15 +7,15 @@ use mathlib.Core.Option.{Option, some}
 use lib.ListN.{length, getD}
 use Rattle.process.specs.Recursion.{Choice, value, choice}
 use Rattle.model.specs.Counted.{Counted, weightAt, W, M}
-use Rattle.model.specs.Plan.{processOf, queueAt, placeAt, valuesNeeded, planNeeded}
+use Rattle.model.specs.Plan.{processOf, queueAt, placeAt, byteAt, valuePlaces, planNeeded}
 use Rattle.model.specs.Queue.{Queue, queueCount}
 use Rattle.model.specs.Refusal.{N, sheetRefusal}
 use Rattle.counts.specs.Counts.{HoldsCounts}
-use Rattle.value.specs.Width.{Width, readAt}
-use Rattle.value.specs.Fills.{Fills, numberAt}
+use Rattle.model.specs.Width.{Width, valueIn}
+use Rattle.buffers.specs.Fills.{Fills, numberAt}
 use Rattle.rows.specs.Rows.{Row, afterWith}
-use Rattle.rows.specs.Sizes.{Sized}
-use Rattle.rows.specs.declared.sizes.Sizes.{Sizes}
+use Rattle.sheets.specs.Sizes.{Sized}
+use Rattle.sheets.specs.declared.sizes.Sizes.{Sizes}
 use Rattle.ahead.specs.Sums.{sumTo}
 use Rattle.choose.specs.Choice.{byteOf}
 
@@ -56,21 +56,21 @@ pub record InPlan (s : Counted) (left : ℕ) (scale : Option ℕ) : Type 0 where
   pub left-low : left < s .horizon
   pub scale-is : scale ≡ some (W s ^ suc left)
 
--- what every pass is given: the counts, a sheet that is accepted, and its sizes
-pub record Prepared (counts : List ℕ) (s : Counted) (sizes : Sizes) : Type 0 where
+-- what every pass is given: the counts, a sheet that is accepted by the limit of the width, and its sizes
+pub record Prepared (width : Width) (counts : List ℕ) (s : Counted) (sizes : Sizes) : Type 0 where
   pub holds : HoldsCounts counts
-  pub accepted : sheetRefusal s ≡ 0
+  pub accepted : sheetRefusal (width .limit) s ≡ 0
   pub sized : Sized s sizes
 
 -- .. and one of its slots
-pub record Ready (counts : List ℕ) (s : Counted) (sizes : Sizes) (left : ℕ) (scale : Option ℕ) : Type 0 where
-  pub prepared : Prepared counts s sizes
+pub record Ready (width : Width) (counts : List ℕ) (s : Counted) (sizes : Sizes) (left : ℕ) (scale : Option ℕ) : Type 0 where
+  pub prepared : Prepared width counts s sizes
   pub in-plan : InPlan s left scale
 
 -- what a slot leaves that has so many left after it: every queue, in the row of the values that begins at place `this` and in the row of the
 -- plan that begins at place `row`
 pub record Planned (width : Width) (s : Counted) (left this row : ℕ) (values₀ plan₀ values plan : List ℕ) : Type 0 where
-  pub values-filled : Fills (width .places) (readAt width) (λ i. valueWith s (suc left) (queueAt s i)) this (N s) values₀ values
+  pub values-filled : Fills (width .places) (valueIn width) (λ i. valueWith s (suc left) (queueAt s i)) this (N s) values₀ values
   pub plan-filled : Fills 1 numberAt (λ i. byteOf (choiceWith s left (queueAt s i))) row (N s) plan₀ plan
 
 -- how far the lent memory is planned: the last k slots and the end row. What lies behind both tables is what was lent
@@ -78,8 +78,8 @@ pub record PlannedFrom (width : Width) (s : Counted) (k : ℕ) (values₀ plan�
   pub values-length : length values ≡ length values₀
   pub plan-length : length plan ≡ length plan₀
   pub values-right : (t i : ℕ) → s .horizon ≤ t + k → t ≤ s .horizon → i < N s →
-      readAt width values (placeAt s t i) ≡ valueWith s (s .horizon - t) (queueAt s i)
+      valueIn width values (placeAt s t i) ≡ valueWith s (s .horizon - t) (queueAt s i)
   pub plan-right : (t i : ℕ) → s .horizon ≤ t + k → t < s .horizon → i < N s →
-      getD plan (placeAt s t i) 0 ≡ byteOf (choiceWith s (pred (s .horizon - t)) (queueAt s i))
-  pub values-beyond : (p : ℕ) → valuesNeeded s * width .places ≤ p → getD values p 0 ≡ getD values₀ p 0
+      byteAt s plan t i ≡ byteOf (choiceWith s (pred (s .horizon - t)) (queueAt s i))
+  pub values-beyond : (p : ℕ) → valuePlaces width s ≤ p → getD values p 0 ≡ getD values₀ p 0
   pub plan-beyond : (p : ℕ) → planNeeded s ≤ p → getD plan p 0 ≡ getD plan₀ p 0

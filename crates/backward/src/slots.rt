@@ -1,18 +1,18 @@
 // All the rows: the end row, and then slot after slot from the last one back, each from the row of the next.
+use layout::place;
 use limits::weights;
 use model::Sheet;
-use rows::Sizes;
-use sheets::place;
+use sheets::Sizes;
 use value::Value;
 ghost use mathlib.Core.Path.{_≡_};
 ghost use mathlib.Core.Option.{some};
 ghost use Prim.Native.Nat.{suc, _+_, _*_, _≤_, _<_};
 ghost use lib.ListN.{length};
 ghost use Rattle.model.specs.Counted.{counted};
-ghost use Rattle.model.specs.Plan.{valuesNeeded, planNeeded};
-ghost use Rattle.value.specs.Fills.{Fills};
+ghost use Rattle.model.specs.Plan.{valuePlaces, planNeeded};
+ghost use Rattle.buffers.specs.Fills.{Fills};
 ghost use Rattle.value.specs.Narrow.{width, valueOf};
-ghost use Rattle.value.specs.Width.{readAt};
+ghost use Rattle.model.specs.Width.{valueIn};
 ghost use Rattle.entry_lanes.specs.Lanes.{EntryTable};
 ghost use Rattle.speed_lanes.specs.Lanes.{SpeedTable};
 ghost use Rattle.backward.specs.Passes.{aheadOf, queueAfter, ValueRow, AheadRow, Prepared, Ready, Planned, PlannedFrom};
@@ -30,7 +30,7 @@ pub struct Slot {
 // The end row: after the last slot remaining work costs nothing.
 fn fill_end(queues: usize, from: usize, values: &mut [u64])
     requires { ⌜ (from + queues) * width .places ≤ length (now values) ⌝ }
-    ensures { λ r. ⌜ Fills (width .places) (readAt width) (λ i. some 0) from queues (now (values .entry)) (now (values .exit)) ⌝ }
+    ensures { λ r. ⌜ Fills (width .places) (valueIn width) (λ i. some 0) from queues (now (values .entry)) (now (values .exit)) ⌝ }
 {
     let mut number = 0;
     while number < queues {
@@ -66,10 +66,10 @@ fn fill_ahead(
     ahead: &mut [u64],
     lanes: &[u32],
 )
-    requires { ⌜ Ready (now counts) (counted sheet) sizes (slot .left) (valueOf (slot .scale)) ×
+    requires { ⌜ Ready width (now counts) (counted sheet) sizes (slot .left) (valueOf (slot .scale)) ×
         ValueRow width (counted sheet) (slot .left) (slot .next) (now values) × (sizes .after * width .places ≤ length (now ahead)) ⌝ }
     requires lanes { ⌜ EntryTable (sizes .largest) (sizes .bound) (counted sheet) (now lanes) ⌝ }
-    ensures { λ r. ⌜ Fills (width .places) (readAt width) (λ i. aheadOf (counted sheet) (slot .left) (queueAfter (counted sheet) i))
+    ensures { λ r. ⌜ Fills (width .places) (valueIn width) (λ i. aheadOf (counted sheet) (slot .left) (queueAfter (counted sheet) i))
         0 (sizes .after) (now (ahead .entry)) (now (ahead .exit)) ⌝ }
 {
     ahead::fill(sheet, sizes, lanes, slot.next, values, ahead);
@@ -86,7 +86,7 @@ fn fill_row(
     plan: &mut [u8],
     lanes: &[u32],
 )
-    requires { ⌜ Ready (now counts) (counted sheet) sizes (slot .left) (valueOf (slot .scale)) ×
+    requires { ⌜ Ready width (now counts) (counted sheet) sizes (slot .left) (valueOf (slot .scale)) ×
         AheadRow width (counted sheet) (slot .left) (now ahead) × ((slot .this + sizes .queues) * width .places ≤ length (now values)) ×
         (slot .row + sizes .queues ≤ length (now plan)) ⌝ }
     requires lanes { ⌜ SpeedTable (sizes .largest) (sizes .bound) (counted sheet) (now lanes) ⌝ }
@@ -118,7 +118,7 @@ fn fill_slot(
     entry_lanes: &[u32],
     speed_lanes: &[u32],
 )
-    requires { ⌜ Ready (now counts) (counted sheet) sizes (slot .left) (valueOf (slot .scale)) ×
+    requires { ⌜ Ready width (now counts) (counted sheet) sizes (slot .left) (valueOf (slot .scale)) ×
         ValueRow width (counted sheet) (slot .left) (slot .next) (now values) × (sizes .after * width .places ≤ length (now ahead)) ×
         ((slot .this + sizes .queues) * width .places ≤ length (now values)) × (slot .row + sizes .queues ≤ length (now plan)) ⌝ }
     requires lanes { ⌜ EntryTable (sizes .largest) (sizes .bound) (counted sheet) (now «entry_lanes») ×
@@ -141,8 +141,8 @@ fn fill_slots(
     entry_lanes: &[u32],
     speed_lanes: &[u32],
 )
-    requires { ⌜ Prepared (now counts) (counted sheet) sizes × (planNeeded (counted sheet) ≤ length (now plan)) ×
-        (valuesNeeded (counted sheet) * width .places ≤ length (now values)) ×
+    requires { ⌜ Prepared width (now counts) (counted sheet) sizes × (planNeeded (counted sheet) ≤ length (now plan)) ×
+        (valuePlaces width (counted sheet) ≤ length (now values)) ×
         PlannedFrom width (counted sheet) 0 (now values) (now plan) (now values) (now plan) ⌝ }
     requires lanes { ⌜ EntryTable (sizes .largest) (sizes .bound) (counted sheet) (now «entry_lanes») ×
         SpeedTable (sizes .largest) (sizes .bound) (counted sheet) (now «speed_lanes») ⌝ }
@@ -175,8 +175,8 @@ fn fill_slots(
 // The end row and every slot. The lanes have no slot in them, and are worked out once: two columns of 32 places and a line for each of at
 // most 969 blocks, two columns of 9 places and a line for each of at most 7,084.
 pub fn fill(counts: &[u32; 2352], sheet: Sheet, sizes: Sizes, values: &mut [u64], plan: &mut [u8])
-    requires { ⌜ Prepared (now counts) (counted sheet) sizes × (planNeeded (counted sheet) ≤ length (now plan)) ×
-        (valuesNeeded (counted sheet) * width .places ≤ length (now values)) ⌝ }
+    requires { ⌜ Prepared width (now counts) (counted sheet) sizes × (planNeeded (counted sheet) ≤ length (now plan)) ×
+        (valuePlaces width (counted sheet) ≤ length (now values)) ⌝ }
     ensures { λ r. ⌜ PlannedFrom width (counted sheet) (sheet .horizon)
         (now (values .entry)) (now (plan .entry)) (now (values .exit)) (now (plan .exit)) ⌝ }
 {

@@ -1,1 +1,2 @@
-// What writing into a lent buffer leaves, as definitions (specs/) and laws (proofs/), for the crates that write bytes. It has no code.
+// What filling a lent buffer leaves, and writing bytes into one, as definitions (specs/) and laws (proofs/), for every crate that does so. It
+// has no code.

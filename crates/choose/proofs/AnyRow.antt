@@ -17,13 +17,14 @@ use Rattle.model.specs.Queue.{Queue, total, bearable, run}
 use Rattle.model.specs.Refusal.{fieldsRefusal}
 use Rattle.model.proofs.Queues.{bearable-at, listed-bearable}
 use Rattle.queues.specs.Blocks.{queueWith}
-use Rattle.value.specs.Fills.{Fills, numberAt}
-use Rattle.value.specs.Width.{Width, readAt, Below}
-use Rattle.value.proofs.Decoding.{below-limit}
-use Rattle.value.proofs.Filling.{fills-same}
+use Rattle.buffers.specs.Fills.{Fills, numberAt}
+use Rattle.model.specs.Width.{Width, valueIn}
+use Rattle.value.specs.Values.{Fits}
+use Rattle.value.proofs.Decoding.{bound-fits}
+use Rattle.buffers.proofs.Filling.{fills-same}
 use Rattle.rows.specs.Rows.{RowAfter}
-use Rattle.rows.specs.Sizes.{Measured}
-use Rattle.rows.specs.declared.sizes.Sizes.{Sizes}
+use Rattle.sheets.specs.Sizes.{Measured}
+use Rattle.sheets.specs.declared.sizes.Sizes.{Sizes}
 use Rattle.rows.proofs.Rows.{after-says}
 use Rattle.speed_lanes.specs.Lanes.{SpeedTable}
 use Rattle.choose.specs.Choice.{costBy, leastBy, costAt, leastIn, byteOf}
@@ -73,31 +74,31 @@ module _ (width : Width) (s : Counted) {sizes : Sizes} (m : Measured sizes) (g :
       leastIn width (sizes .largest) (sizes .bound) s ahead scale w ≡ leastBy g s scale w
   least-told scale n h = least-same (speedAt s) _ _ (s .speedCount) (λ j l. costs-told scale n h j)
 
-  -- what the pass is given, where the function's bound and each scaled energy together are below the limit of a value
+  -- what the pass is given, where the function's bound and each scaled energy together pass no limit of a value
   pub given-for : {lanes : List ℕ} (most : ℕ) {scale : Option ℕ} (unit : ℕ) → fieldsRefusal s ≡ 0 →
       SpeedTable (sizes .largest) (sizes .bound) s lanes → ((v : Queue) → UptoOr (Unit {0}) (g v) most) → scale ≡ some unit →
-      ((j : ℕ) → j < s .speedCount → most + energyAt s j * unit < width .limit) → Given width s sizes scale lanes ahead
+      ((j : ℕ) → j < s .speedCount → most + energyAt s j * unit ≤ width .limit) → Given width s sizes scale lanes ahead
   given-for most {scale} unit fields table upto e low =
       record {
         fields = fields;
         measured = m;
         table = table;
         room =
-            subst (λ (n : ℕ). n * width .places ≤ length ahead) (zero-add _ ∙ sym (m .after-is)) (row .stands .room);
+            subst (λ (n : ℕ). n * width .places ≤ length ahead) (zero-add _ ∙ sym (m .after-is)) (row .row .room);
         fits = λ n j h k.
             let w = queueWith (sizes .largest) (sizes .bound) n in
-            subst (λ (r : Option ℕ). Below (width .limit) r)
+            subst (Fits width)
             (sym (costs-told scale n h j ∙ ap (λ (q : Option ℕ). costBy g q w (speedAt s j) (energyAt s j)) e))
-            (below-limit (costBy g (some unit) w (speedAt s j) (energyAt s j)) (cost-upto g most upto unit w (speedAt s j) (energyAt s j))
+            (bound-fits width (costBy g (some unit) w (speedAt s j) (energyAt s j)) (cost-upto g most upto unit w (speedAt s j) (energyAt s j))
             (low j k));
       }
 
   -- what it leaves: what the least by the function is worth, and its speed
   module _ {scale : Option ℕ} {this place : ℕ} {values₀ plan₀ values plan : List ℕ}
       (left : LeftAll width s sizes scale ahead this place values₀ plan₀ values plan) where
-    pub values-for : Fills (width .places) (readAt width) (λ n. worth (leastBy g s scale (queueWith (sizes .largest) (sizes .bound) n)))
+    pub values-for : Fills (width .places) (valueIn width) (λ n. worth (leastBy g s scale (queueWith (sizes .largest) (sizes .bound) n)))
         this (sizes .queues) values₀ values
-    values-for = fills-same (width .places) (readAt width) (λ n h. ap worth (least-told scale n h)) (left .values-filled)
+    values-for = fills-same (width .places) (valueIn width) (λ n h. ap worth (least-told scale n h)) (left .values-filled)
 
     pub plan-for : Fills 1 numberAt (λ n. byteOf (leastBy g s scale (queueWith (sizes .largest) (sizes .bound) n)))
         place (sizes .queues) plan₀ plan

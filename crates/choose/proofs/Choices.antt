@@ -8,7 +8,7 @@ use native.Mathlib.Omega.{arith}
 use lib.Dec.{T, ltb}
 use Rattle.process.specs.Recursion.{Choice, nothing, chosen, choose, cheaper, better}
 use Rattle.process.proofs.Equations.{cheaper-is}
-use Rattle.value.specs.Width.{lessThan}
+use Rattle.value.specs.Values.{lessThan}
 use Rattle.choose.specs.Choice.{leastTo, byteOf, IsChoice, IsBetter}
 
 -- one speed more

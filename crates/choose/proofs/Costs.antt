@@ -10,7 +10,7 @@ use lib.Dec.{T, leb}
 use Rattle.process.specs.Recursion.{plus, times, only}
 use Rattle.model.specs.Queue.{Queue, total, bearable, numberOf}
 use Rattle.model.proofs.Tests.{holds-true}
-use Rattle.value.specs.Width.{Width, readAt}
+use Rattle.model.specs.Width.{Width, valueIn}
 use Rattle.rows.specs.Rows.{valueInRow}
 use Rattle.rows.proofs.Rows.{none-in-row, read-in-row}
 use Rattle.speed_lanes.specs.Lanes.{afterOf, leadsOn}
@@ -31,7 +31,7 @@ module _ (width : Width) (M D : ℕ) (ahead : List ℕ) (scale : Option ℕ) (w 
 
   -- else what the buffer has at the number of the queue after the slot, and the scaled energy
   pub cost-some : T (leadsOn M D w speed) →
-      costBy (aheadIn width M D ahead) scale w speed energy ≡ plus (readAt width ahead (numberOf M (afterOf D w speed))) (times energy scale)
+      costBy (aheadIn width M D ahead) scale w speed energy ≡ plus (valueIn width ahead (numberOf M (afterOf D w speed))) (times energy scale)
   unfolding costBy
   cost-some t =
       let parts = leads-parts M D w speed t in
@@ -39,4 +39,4 @@ module _ (width : Width) (M D : ℕ) (ahead : List ℕ) (scale : Option ℕ) (w 
       (le-leb (total w 1) speed (parts .0)) ∙
       ap (λ (r : Option ℕ). plus r (times energy scale))
       (read-in-row width M ahead 0 (afterOf D w speed) (holds-true (bearable M (afterOf D w speed)) (parts .1)) ∙
-      ap (readAt width ahead) (zero-add (numberOf M (afterOf D w speed))))
+      ap (valueIn width ahead) (zero-add (numberOf M (afterOf D w speed))))

@@ -20,14 +20,15 @@ use Rattle.model.proofs.Refusal.{Ranged, ranged}
 use Rattle.model.proofs.Tests.{same-test, first-holds, first-upto, first-within}
 use Rattle.queues.specs.Blocks.{queueWith, firstOf, startOf, lowestOf, lastOf, numberIn, InBlock, InBlocks, Alike}
 use Rattle.queues.proofs.Blocks.{block-place, block-alike, first-queue}
-use Rattle.value.specs.Fills.{Fills, numberAt}
-use Rattle.value.specs.Width.{Width, readAt}
-use Rattle.value.proofs.Filling.{read-local, number-local, fills-same, number-stored}
-use Rattle.rows.specs.Sizes.{Measured}
+use Rattle.buffers.specs.Fills.{Fills, numberAt}
+use Rattle.model.specs.Width.{Width, valueIn}
+use Rattle.buffers.proofs.Filling.{value-local, number-local, fills-same, number-stored}
+use Rattle.sheets.specs.Sizes.{Measured}
 use Rattle.rows.specs.Tables.{lineAt}
-use Rattle.rows.specs.declared.sizes.Sizes.{Sizes}
+use Rattle.sheets.specs.declared.sizes.Sizes.{Sizes}
 use Rattle.rows.proofs.Blocks.{block-none, block-more, blocks-none, blocks-more, blocks-whole}
-use Rattle.rows.proofs.Measures.{one-fewer, most-total}
+use Rattle.sheets.proofs.Measures.{one-fewer}
+use Rattle.rows.proofs.Room.{most-total}
 use Rattle.rows.proofs.Tables.{line-within}
 use Rattle.speed_lanes.specs.Lanes.{afterOf, leadsOn, slowestIn, laneOf, Lane}
 use Rattle.speed_lanes.proofs.Lanes.{leads-parts, leads-carries, leads-nowhere, lane-says}
@@ -181,10 +182,10 @@ module _ {width : Width} {s : Counted} {sizes : Sizes} {scale : Option ℕ} {lan
               let g = lane .goes (omega (arith, placed .1)) in
               (g .0, g .1 ∙ ap (λ (y : ℕ). laneOf M D first (speedAt s j) + (y - max (speedAt s j) (lowestOf M D b))) (placed .1))
 
-          pub cost-there : costAt width M D s ahead scale w j ≡ plus (readAt width ahead found) (times (energyAt s j) scale)
+          pub cost-there : costAt width M D s ahead scale w j ≡ plus (valueIn width ahead found) (times (energyAt s j) scale)
           cost-there =
               cost-some width M D ahead scale w (speedAt s j) (energyAt s j) (goes .0) ∙
-              ap (λ (n : ℕ). plus (readAt width ahead n) (times (energyAt s j) scale)) (goes .1)
+              ap (λ (n : ℕ). plus (valueIn width ahead n) (times (energyAt s j) scale)) (goes .1)
 
           pub found-low : found < sizes .after
           found-low =
@@ -201,13 +202,13 @@ module _ {width : Width} {s : Counted} {sizes : Sizes} {scale : Option ℕ} {lan
 pub left-stored : (width : Width) (s : Counted) (sizes : Sizes) (scale : Option ℕ) (ahead : List ℕ) (this row : ℕ)
     {n m speed : ℕ} {r : Option ℕ} {values values′ plan : List ℕ} → m ≡ n →
     IsChoice (leastIn width (sizes .largest) (sizes .bound) s ahead scale (queueWith (sizes .largest) (sizes .bound) n)) speed r →
-    Fills (width .places) (readAt width) (λ i. r) (this + m) 1 values values′ → row + m < length plan →
+    Fills (width .places) (valueIn width) (λ i. r) (this + m) 1 values values′ → row + m < length plan →
     Left width s sizes scale ahead this row n values plan values′ (set plan (row + m) speed)
 left-stored width s sizes scale ahead this row {n} {m} {speed} {values = values} {values′ = values′} {plan = plan} e chosen stored low =
     record {
       value-filled =
-          subst (λ (k : ℕ). Fills (width .places) (readAt width) (λ i. valueLeft width s sizes scale ahead n) (this + k) 1 values values′) e
-          (fills-same (width .places) (readAt width) (λ i h. chosen .value-is) stored);
+          subst (λ (k : ℕ). Fills (width .places) (valueIn width) (λ i. valueLeft width s sizes scale ahead n) (this + k) 1 values values′) e
+          (fills-same (width .places) (valueIn width) (λ i h. chosen .value-is) stored);
       byte-filled =
           subst (λ (k : ℕ). Fills 1 numberAt (λ i. byteLeft width s sizes scale ahead n) (row + k) 1 plan (set plan (row + m) speed)) e
           (fills-same 1 numberAt (λ i h. chosen .speed-is) (number-stored plan (row + m) speed low));
@@ -227,7 +228,7 @@ module _ (width : Width) (s : Counted) (sizes : Sizes) (scale : Option ℕ) (ahe
         subst (λ (y : ℕ). Done (InBlock (sizes .largest) (sizes .bound) b y) values plan values plan) (sym e)
         (record {
           values-filled =
-              block-none (width .places) (readAt width) (read-local width) (sizes .largest) (sizes .bound)
+              block-none (width .places) (valueIn width) (value-local width) (sizes .largest) (sizes .bound)
               (valueLeft width s sizes scale ahead) this b h values;
           plan-filled =
               block-none 1 numberAt number-local (sizes .largest) (sizes .bound) (byteLeft width s sizes scale ahead) row b h plan;
@@ -242,7 +243,7 @@ module _ (width : Width) (s : Counted) (sizes : Sizes) (scale : Option ℕ) (ahe
         rw add-one
         (record {
           values-filled =
-              block-more (width .places) (readAt width) (read-local width) (sizes .largest) (sizes .bound)
+              block-more (width .places) (valueIn width) (value-local width) (sizes .largest) (sizes .bound)
               (valueLeft width s sizes scale ahead) this b h x
               (numberIn (sizes .largest) (sizes .bound) b x) low high refl refl refl (so-far .values-filled) (left .value-filled);
           plan-filled =
@@ -258,7 +259,7 @@ module _ (width : Width) (s : Counted) (sizes : Sizes) (scale : Option ℕ) (ahe
     left-block x high so-far block =
         record {
           values-filled =
-              blocks-more (width .places) (readAt width) (read-local width) (sizes .largest) (sizes .bound)
+              blocks-more (width .places) (valueIn width) (value-local width) (sizes .largest) (sizes .bound)
               (valueLeft width s sizes scale ahead) this b x h
               high (so-far .values-filled) (block .values-filled);
           plan-filled =
@@ -271,7 +272,7 @@ module _ (width : Width) (s : Counted) (sizes : Sizes) (scale : Option ℕ) (ahe
   left-begun values plan =
       record {
         values-filled =
-            blocks-none (width .places) (readAt width) (read-local width) (sizes .largest) (sizes .bound)
+            blocks-none (width .places) (valueIn width) (value-local width) (sizes .largest) (sizes .bound)
             (valueLeft width s sizes scale ahead) this values;
         plan-filled = blocks-none 1 numberAt number-local (sizes .largest) (sizes .bound) (byteLeft width s sizes scale ahead) row plan;
       }
@@ -283,7 +284,7 @@ module _ (width : Width) (s : Counted) (sizes : Sizes) (scale : Option ℕ) (ahe
   left-whole m b all filled =
       record {
         values-filled =
-            blocks-whole (width .places) (readAt width) (read-local width) (sizes .largest) (sizes .bound)
+            blocks-whole (width .places) (valueIn width) (value-local width) (sizes .largest) (sizes .bound)
             (valueLeft width s sizes scale ahead) this b
             (sizes .queues) (all ∙ m .after-is) (m .queues-is) (filled .values-filled);
         plan-filled =

@@ -9,7 +9,7 @@ use Rattle.process.specs.Recursion.{plus, times, only, Choice, nothing, chosen,
 use Rattle.model.specs.Counted.{Counted, speedAt, energyAt}
 use Rattle.model.specs.Plan.{noSpeed}
 use Rattle.model.specs.Queue.{Queue, total, queueIn, run}
-use Rattle.value.specs.Width.{Width}
+use Rattle.model.specs.Width.{Width}
 use Rattle.rows.specs.Rows.{valueInRow}
 
 -- what a speed costs in a queue: none below w(1), else what is ahead of the queue after the slot and the scaled energy

@@ -8,10 +8,11 @@ use Rattle.process.specs.Recursion.{worth}
 use Rattle.model.specs.Counted.{Counted}
 use Rattle.model.specs.Refusal.{fieldsRefusal}
 use Rattle.queues.specs.Blocks.{queueWith, lowestOf}
-use Rattle.value.specs.Fills.{Fills, FillsWhere, numberAt}
-use Rattle.value.specs.Width.{Width, readAt, Below}
-use Rattle.rows.specs.Sizes.{Measured}
-use Rattle.rows.specs.declared.sizes.Sizes.{Sizes}
+use Rattle.buffers.specs.Fills.{Fills, FillsWhere, numberAt}
+use Rattle.model.specs.Width.{Width, valueIn}
+use Rattle.value.specs.Values.{Fits}
+use Rattle.sheets.specs.Sizes.{Measured}
+use Rattle.sheets.specs.declared.sizes.Sizes.{Sizes}
 use Rattle.speed_lanes.specs.Lanes.{SpeedTable}
 use Rattle.choose.specs.Choice.{costAt, leastIn, byteOf}
 
@@ -23,7 +24,7 @@ pub record Given (width : Width) (s : Counted) (sizes : Sizes) (scale : Option �
   pub table : SpeedTable (sizes .largest) (sizes .bound) s lanes
   pub room : sizes .after * width .places ≤ length ahead
   pub fits : (n j : ℕ) → n < sizes .queues → j < s .speedCount →
-      Below (width .limit) (costAt width (sizes .largest) (sizes .bound) s ahead scale (queueWith (sizes .largest) (sizes .bound) n) j)
+      Fits width (costAt width (sizes .largest) (sizes .bound) s ahead scale (queueWith (sizes .largest) (sizes .bound) n) j)
 
 -- the queue of block b with the last total x is one
 pub record Within (sizes : Sizes) (b x : ℕ) : Type 0 where
@@ -44,17 +45,17 @@ byteLeft width s sizes scale ahead n =
 -- at one queue
 pub record Left (width : Width) (s : Counted) (sizes : Sizes) (scale : Option ℕ) (ahead : List ℕ) (this row n : ℕ)
     (values₀ plan₀ values plan : List ℕ) : Type 0 where
-  pub value-filled : Fills (width .places) (readAt width) (λ i. valueLeft width s sizes scale ahead n) (this + n) 1 values₀ values
+  pub value-filled : Fills (width .places) (valueIn width) (λ i. valueLeft width s sizes scale ahead n) (this + n) 1 values₀ values
   pub byte-filled : Fills 1 numberAt (λ i. byteLeft width s sizes scale ahead n) (row + n) 1 plan₀ plan
 
 -- at each queue whose number is done
 pub record LeftWhere (width : Width) (s : Counted) (sizes : Sizes) (scale : Option ℕ) (ahead : List ℕ) (this row : ℕ) (done : ℕ → Type 0)
     (values₀ plan₀ values plan : List ℕ) : Type 0 where
-  pub values-filled : FillsWhere (width .places) (readAt width) (valueLeft width s sizes scale ahead) this done values₀ values
+  pub values-filled : FillsWhere (width .places) (valueIn width) (valueLeft width s sizes scale ahead) this done values₀ values
   pub plan-filled : FillsWhere 1 numberAt (byteLeft width s sizes scale ahead) row done plan₀ plan
 
 -- at every queue
 pub record LeftAll (width : Width) (s : Counted) (sizes : Sizes) (scale : Option ℕ) (ahead : List ℕ) (this row : ℕ)
     (values₀ plan₀ values plan : List ℕ) : Type 0 where
-  pub values-filled : Fills (width .places) (readAt width) (valueLeft width s sizes scale ahead) this (sizes .queues) values₀ values
+  pub values-filled : Fills (width .places) (valueIn width) (valueLeft width s sizes scale ahead) this (sizes .queues) values₀ values
   pub plan-filled : Fills 1 numberAt (byteLeft width s sizes scale ahead) row (sizes .queues) plan₀ plan

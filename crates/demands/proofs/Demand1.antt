@@ -52,7 +52,7 @@ module _ {bytes : List ℕ} {a : ReadSheet} (call : Reads bytes a) where
   unfolding readLines
   read-answers =
       let s = sheetIn bytes in
-      answers _ _ (readLines bytes) (each-field _ s _ (λ k. _) _, (_, each-limit _ s _ _)) (read-is call .number-is ∙ read-number bytes)
+      answers _ _ (readLines bytes) (each-field _ s _ (λ k. _) _, (_, each-limit _ s _ _ _)) (read-is call .number-is ∙ read-number bytes)
 
   -- "A refused read gives an all-zero sheet"
   pub read-refused : (a .number ≡ 0 → ⊥) → a .sheet ≡ zeroSheet
@@ -72,7 +72,7 @@ module _ {sheet : Sheet} {before after : List ℕ} {a : Written} (call : Writes 
   unfolding writeLines
   write-answers =
       let s = counted sheet in
-      answers _ _ (writeLines s (length before)) (each-of-sheet _ s _ _, _) (write-is call .number-is ∙ write-number s before)
+      answers _ _ (writeLines s (length before)) (each-of-sheet _ s _ _ _, _) (write-is call .number-is ∙ write-number s before)
 
   -- "A refused write .. touches no lent place and reports zero for length"
   pub write-refused : (a .number ≡ 0 → ⊥) → (a .length ≡ 0) × (after ≡ before)
@@ -99,7 +99,7 @@ module _ {sheet : Sheet} {values₀ plan₀ values bytes : List ℕ} {a : PlanAn
   unfolding planLines
   plan-answers =
       let refusal = planRefusal s (length values₀) (length plan₀) in
-      answers-or-12 _ _ _ (planLines s (length values₀) (length plan₀)) (each-of-sheet _ s _ _, _) (IsValueOfEmpty s)
+      answers-or-12 _ _ _ (planLines s (length values₀) (length plan₀)) (each-of-sheet _ s _ _ _, _) (IsValueOfEmpty s)
       (λ v p q. let same = one-value none (some v) p q in let z : _≡_ {A = ℕ} 0 1 = cc in omega arith) refusal refl
       (numbered refusal (plan-is call))
 
@@ -117,8 +117,8 @@ module _ {sheet : Sheet} {values₀ plan₀ values bytes : List ℕ} {a : PlanAn
       go (suc refusal) leaves = (
         ap (λ (x : model-plan.PlanAnswer). x .queues) (leaves .answer),
         ap (λ (x : model-plan.PlanAnswer). x .least) (leaves .answer),
-        leaves .values-kept,
-        leaves .plan-kept,
+        leaves .values-same,
+        leaves .plan-same,
       )
 
   -- 12 "fills both buffers and reports N, least energy 0"
@@ -144,7 +144,7 @@ row-empty {sheet = sheet} {bytes = bytes} {part = part} {slot = slot} call =
     s = counted sheet
 
     tells : Tells (rowRefusal s (length bytes)) (rowLines s (length bytes))
-    tells = answers (4 ∷ 5 ∷ 6 ∷ 7 ∷ 8 ∷ 9 ∷ 10 ∷ 11 ∷ []) _ (rowLines s (length bytes)) (each-of-sheet _ s _ _, _) refl .tells
+    tells = answers (4 ∷ 5 ∷ 6 ∷ 7 ∷ 8 ∷ 9 ∷ 10 ∷ 11 ∷ []) _ (rowLines s (length bytes)) (each-of-sheet _ s _ _ _, _) refl .tells
 
     there : (number : ℕ) → rowRefusal s (length bytes) ≡ number → (below : Bool) → ltb slot (sheet .horizon) ≡ below →
         part ≡ [] → ((n : ℕ) × FailsFirst (rowLines s (length bytes)) n) ⊎ (sheet .horizon ≤ slot)
@@ -165,7 +165,7 @@ module _ {sheet : Sheet} {least : ℕ} {bytes before after : List ℕ} {a : List
   unfolding listLines
   list-answers =
       let s = counted sheet in
-      answers _ _ (listLines s least bytes (length before)) (each-of-sheet _ s _ _, _)
+      answers _ _ (listLines s least bytes (length before)) (each-of-sheet _ s _ _ _, _)
       (list-is call .number-is ∙ list-number s least bytes before)
 
   -- a refused listing touches no lent place and reports zero for length, as a refused write does
@@ -181,7 +181,7 @@ module _ {state : State} {sheet : Sheet} {a : Stepped} (call : Starts state shee
   unfolding startLines
   start-answers =
       let s = counted sheet in
-      answers _ _ (startLines s (stateOf state)) (each-of-sheet _ s _ _, _) (start-is call .number-is ∙ start-number s (stateOf state) .0)
+      answers _ _ (startLines s (stateOf state)) (each-of-sheet _ s _ _ _, _) (start-is call .number-is ∙ start-number s (stateOf state) .0)
 
   -- "A refused start gives an all-zero state"
   pub start-refused : (a .number ≡ 0 → ⊥) → stateOf (a .state) ≡ zeroState
@@ -195,7 +195,7 @@ module _ {state : State} {sheet : Sheet} {bytes : List ℕ} {a : Told} (call : S
   unfolding speedLines rowLines
   speed-answers =
       let s = counted sheet in
-      answers _ _ (speedLines s bytes (stateOf state)) ((each-of-sheet _ s _ _, _), _)
+      answers _ _ (speedLines s bytes (stateOf state)) ((each-of-sheet _ s _ _ _, _), _)
       (speed-is call .number-is ∙ speed-number s bytes (stateOf state) .0)
 
   -- "A refused speed is 0"
@@ -212,7 +212,7 @@ module _ {state : State} {sheet : Sheet} {bytes : List ℕ} {size deadline : ℕ
   unfolding advanceLines speedLines rowLines
   advance-answers =
       let s = counted sheet in
-      answers _ _ (advanceLines s bytes (stateOf state) size deadline) (((each-of-sheet _ s _ _, _), _), _)
+      answers _ _ (advanceLines s bytes (stateOf state) size deadline) (((each-of-sheet _ s _ _ _, _), _), _)
       (advance-is call .number-is ∙ advance-number s bytes (stateOf state) size deadline .0)
 
   -- "a refused advance hands back the state it got"
@@ -233,7 +233,7 @@ module _ {state : State} {sheet : Sheet} {bytes : List ℕ} {size deadline : ℕ
       let queue = line 17 (bearable (M s) (queueOf s next)) in
       let energy = line 18 (leb (next .energy) energyLimit) in
       let fails = advance-answers .tells .refused 18 (omega arith) .0 e in
-      let (passed, fails-after) = later 18 (speedLines s bytes x) (entry ⨾ queue ⨾ energy) ((each-of-sheet _ s _ _, _), _) fails in
+      let (passed, fails-after) = later 18 (speedLines s bytes x) (entry ⨾ queue ⨾ energy) ((each-of-sheet _ s _ _ _, _), _) fails in
       let over = later 18 queue energy _ (later 18 entry (queue ⨾ energy) _ fails-after .1) .1 .0 in
       let right = speed-accepted s bytes x (all-zero (speedLines s bytes x) passed) in
       let small = energy-small s (row-accepted s (length bytes) (right .0) .0) x (right .1) byte (byte-on-sheet s x byte (right .2)) in

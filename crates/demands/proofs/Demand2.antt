@@ -16,7 +16,7 @@ use Rattle.model.specs.Counted.{Counted, counted, weightAt, M}
 use Rattle.model.specs.Plan.{processOf, IsValueAt, IsPlanByte, valueIn, queueAt, valuesNeeded, planNeeded, planRefusal, FromEmpty, Filled, LeavesBy, placeOfQueue}
 use Rattle.model.specs.Plan as model-plan
 use Rattle.model.specs.Queue.{Queue, bearable, numberOf}
-use Rattle.model.specs.Refusal.{N, sheetRefusal}
+use Rattle.model.specs.Refusal.{N, sheetRefusal, valueLimit}
 use Rattle.model.specs.declared.Sheet.{Sheet}
 use Rattle.model.proofs.Queues.{number-below, number-place}
 use Rattle.laws.proofs.Rooms.{plan-fits}
@@ -27,7 +27,7 @@ use Rattle.demands.proofs.Determined.{plan-is}
 -- when a plan is not refused
 
 -- where the sheet is accepted and both tables have room
-pub planned-by-room : (s : Counted) (values plan : ℕ) → sheetRefusal s ≡ 0 → valuesNeeded s ≤ values → planNeeded s ≤ plan →
+pub planned-by-room : (s : Counted) (values plan : ℕ) → sheetRefusal valueLimit s ≡ 0 → valuesNeeded s ≤ values → planNeeded s ≤ plan →
     planRefusal s values plan ≡ 0
 planned-by-room s values plan e h k = sym (plan-fits s values plan e h k)
 

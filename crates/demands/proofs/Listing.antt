@@ -16,7 +16,7 @@ use Rattle.model.specs.Listing.{listing, listRefusal, list}
 use Rattle.model.specs.Plan.{processOf, IsValueAt, valueIn, placeAt, number12, Decided, FromEmpty, rowRefusal}
 use Rattle.model.specs.Plan as model-plan
 use Rattle.model.specs.Queue.{emptyQueue}
-use Rattle.model.specs.Refusal.{N, sheetRefusal}
+use Rattle.model.specs.Refusal.{N, sheetRefusal, valueLimit}
 use Rattle.model.specs.declared.Sheet.{Sheet}
 use Rattle.laws.proofs.Listing.{list-number, list-fits}
 use Rattle.laws.proofs.Recursion.{value-most}
@@ -41,7 +41,7 @@ least-is-value s a from-empty e = go (from-empty .r) (from-empty .is-value) (fro
         subst (λ (u : ℕ). IsValueAt s 0 (emptyQueue (s .bound)) (some u)) (sym least) is-value
 
 -- and it is below 2^64: number 9 keeps every value below 2^63
-least-fits : (s : Counted) → sheetRefusal s ≡ 0 → (v : ℕ) → IsValueAt s 0 (emptyQueue (s .bound)) (some v) → v < 2 ^ 64
+least-fits : (s : Counted) → sheetRefusal valueLimit s ≡ 0 → (v : ℕ) → IsValueAt s 0 (emptyQueue (s .bound)) (some v) → v < 2 ^ 64
 least-fits s e v is-value =
     let right = accepted s e in
     let w = emptyQueue (s .bound) in

@@ -12,7 +12,7 @@ use Rattle.laws.proofs.RoundTrip.{counted-well, counted-in-memory, accepted-rea
 use Rattle.model.specs.Bytes.{AreBytes, sheetBytes, BytesOf}
 use Rattle.model.specs.Counted.{counted, inMemory, zeroSpeed, zeroJob}
 use Rattle.model.specs.Reading.{read}
-use Rattle.model.specs.Refusal.{sheetRefusal}
+use Rattle.model.specs.Refusal.{sheetRefusal, valueLimit}
 use Rattle.model.specs.Tests.{padded}
 use Rattle.model.specs.declared.Sheet.{Sheet}
 use Rattle.reader.specs.declared.ReadSheet.{ReadSheet}
@@ -84,10 +84,10 @@ padded-length n z l = length-take-le n (l ++ replicate n z) (omega (arith, lengt
 
 -- a read is accepted exactly when the bytes are those of an accepted sheet
 pub accepted-exactly : {bytes : List ℕ} {r : ReadSheet} → AreBytes bytes → Reads bytes r →
-    (r .number ≡ 0) ↔ ((sheet : Sheet) × HasPlaces sheet × (sheetRefusal (counted sheet) ≡ 0) × (bytes ≡ sheetBytes (counted sheet)))
+    (r .number ≡ 0) ↔ ((sheet : Sheet) × HasPlaces sheet × (sheetRefusal valueLimit (counted sheet) ≡ 0) × (bytes ≡ sheetBytes (counted sheet)))
 accepted-exactly {bytes = bytes} {r = r} are reading = (there, back)
   where
-    there : r .number ≡ 0 → (sheet : Sheet) × HasPlaces sheet × (sheetRefusal (counted sheet) ≡ 0) × (bytes ≡ sheetBytes (counted sheet))
+    there : r .number ≡ 0 → (sheet : Sheet) × HasPlaces sheet × (sheetRefusal valueLimit (counted sheet) ≡ 0) × (bytes ≡ sheetBytes (counted sheet))
     there done =
         let promised = read-is reading in
         let (s, right, sheet) = accepted-read bytes are (sym (promised .number-is) ∙ done) in
@@ -100,7 +100,7 @@ accepted-exactly {bytes = bytes} {r = r} are reading = (there, back)
         let these = from-read are reading done in
         (r .sheet, places, these .is-accepted, these .bytes-are)
 
-    back : (sheet : Sheet) × HasPlaces sheet × (sheetRefusal (counted sheet) ≡ 0) × (bytes ≡ sheetBytes (counted sheet)) → r .number ≡ 0
+    back : (sheet : Sheet) × HasPlaces sheet × (sheetRefusal valueLimit (counted sheet) ≡ 0) × (bytes ≡ sheetBytes (counted sheet)) → r .number ≡ 0
     back (sheet, places, e, bytes-are) =
         let right = accepted (counted sheet) e .ranged in
         let well = counted-well sheet (places .nine) (places .thirty-two) (right .speeds-high) (right .jobs-high) in

@@ -10,7 +10,7 @@ use lib.ListN.{length, getD}
 use Rattle.process.specs.Ways.{Way, spent, IsLeast}
 use Rattle.model.specs.Counted.{Counted, counted, weightAt}
 use Rattle.model.specs.Plan.{processOf, planRefusal}
-use Rattle.model.specs.Refusal.{sheetRefusal}
+use Rattle.model.specs.Refusal.{sheetRefusal, valueLimit}
 use Rattle.model.specs.declared.Sheet.{Sheet}
 use Rattle.laws.proofs.Rooms.{plan-accepted}
 use Rattle.laws.proofs.Stepping.{plannedWay, planned-least, spends-planned}
@@ -26,7 +26,7 @@ module _ {sheet : Sheet} {values₀ plan₀ values bytes : List ℕ} {a : PlanAn
   s = counted sheet
 
   -- the sheet is accepted
-  passed : sheetRefusal s ≡ 0
+  passed : sheetRefusal valueLimit s ≡ 0
   passed = plan-accepted s (length values₀) (length plan₀) planned .0
 
   -- a run to the horizon spends what the planned way spends along its entries

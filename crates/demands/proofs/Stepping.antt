@@ -15,7 +15,7 @@ use Rattle.process.proofs.Definite.{value-unique}
 use Rattle.model.specs.Counted.{Counted, counted, sizeAt, deadlineAt, weightAt, energyOf, M}
 use Rattle.model.specs.Plan.{processOf, IsPlanByte, valueIn, planRefusal, rowRefusal, placeOfQueue, HasValue}
 use Rattle.model.specs.Queue.{Queue, bearable, queueIn, oneSlot}
-use Rattle.model.specs.Refusal.{sheetRefusal}
+use Rattle.model.specs.Refusal.{sheetRefusal, valueLimit}
 use Rattle.model.specs.Stepper as model
 use Rattle.model.specs.declared.Sheet.{Sheet}
 use Rattle.model.proofs.Queues.{held-bearable, length-in, length-slot, in-first-places}
@@ -62,7 +62,7 @@ module _ {sheet : Sheet} {values₀ plan₀ values bytes : List ℕ} {a : PlanAn
       (byte-right call planned w right long t l)
 
   -- the sheet is accepted
-  passed : sheetRefusal s ≡ 0
+  passed : sheetRefusal valueLimit s ≡ 0
   passed = row-accepted s (length bytes) has-room .0
 
   -- what the stepper's laws ask of a state is what a run asks of the one that it begins with

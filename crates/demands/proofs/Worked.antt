@@ -8,7 +8,7 @@ use lib.ListN.{length, getD}
 use Rattle.model.specs.Cases.{A, A0, A1, valuesA0, valuesA1, hopeless, none64, planned, Holds, casesOfA, casesOfHopeless, IsPlanOfA, IsPlanOfHopeless}
 use Rattle.model.specs.Counted.{Counted, counted}
 use Rattle.model.specs.Plan.{valueIn, placeAt, valuesNeeded, planNeeded, PlanAnswer, FromEmpty, Filled}
-use Rattle.model.specs.Refusal.{N, sheetRefusal}
+use Rattle.model.specs.Refusal.{N, sheetRefusal, valueLimit}
 use Rattle.model.specs.declared.Sheet.{Sheet}
 use Rattle.model.proofs.Cases.{A-holds, hopeless-holds}
 use Rattle.model.proofs.Leaves.{decoded-same, decided-same, answer-same}
@@ -18,14 +18,14 @@ use Rattle.demands.proofs.Demand2.{planned-by-room, planned-filled}
 
 -- a plan of a sheet with the view s, which has n queues, lent room for both tables
 module _ {sheet : Sheet} {values₀ plan₀ values bytes : List ℕ} {a : code.PlanAnswer} (call : Plans sheet values₀ plan₀ a values bytes)
-    (s : Counted) (view : counted sheet ≡ s) (accepted : sheetRefusal s ≡ 0) (n : ℕ) (many : N s ≡ n)
+    (s : Counted) (view : counted sheet ≡ s) (accepted : sheetRefusal valueLimit s ≡ 0) (n : ℕ) (many : N s ≡ n)
     (values-room : suc (s .horizon) * n ≤ length values₀) (plan-room : s .horizon * n ≤ length plan₀) where
   -- the lent memory is filled
   filled : Filled valueIn s values₀ plan₀ values bytes (answered a)
   filled =
       subst (λ (z : Counted). Filled valueIn z values₀ plan₀ values bytes (answered a)) view
       (planned-filled call
-      (planned-by-room (counted sheet) (length values₀) (length plan₀) (ap sheetRefusal view ∙ accepted)
+      (planned-by-room (counted sheet) (length values₀) (length plan₀) (ap sheetRefusal valueLimit view ∙ accepted)
       (subst (λ (z : Counted). valuesNeeded z ≤ length values₀) (sym view)
       (subst (λ (m : ℕ). suc (s .horizon) * m ≤ length values₀) (sym many) values-room))
       (subst (λ (z : Counted). planNeeded z ≤ length plan₀) (sym view) (subst (λ (m : ℕ). s .horizon * m ≤ length plan₀) (sym many) plan-room))))

@@ -11,12 +11,12 @@ use Rattle.model.specs.Queue.{Queue, total, queueIn, placesOf, bearable, queueC
 use Rattle.model.proofs.Queues.{in-first-places, length-in, length-arrive, bearable-all, bearable-upto, listed-bearable}
 use Rattle.queues.specs.Blocks.{queueWith, firstOf, lowestOf}
 use Rattle.queues.specs.Order.{Ranges, Numbered}
-use Rattle.slot.specs.Slot.{Small, kept}
+use Rattle.slot.specs.Slot.{Small, lastTwice}
 use Rattle.queues.proofs.Blocks.{first-queue}
 use Rattle.slot.proofs.Places.{positions-in, total-in}
-use Rattle.slot.proofs.Slots.{length-kept, last-kept, bearable-kept, bearable-small}
-use Rattle.rows.proofs.Kept.{kept-places, last-in}
-use Rattle.rows.proofs.Measures.{ranges-fewer, one-fewer}
+use Rattle.slot.proofs.Slots.{length-twice, last-twice, bearable-twice, bearable-small}
+use Rattle.rows.proofs.LastTwice.{twice-places, last-in}
+use Rattle.sheets.proofs.Measures.{ranges-fewer, one-fewer}
 use Rattle.entry_lanes.specs.Lanes.{firstAfter}
 
 -- there is one queue of no position
@@ -39,41 +39,41 @@ module _ (M : ℕ) where
 
   -- what `first_queue` answers, and its last total written once more behind it
   pub after-places : (d b : ℕ) {places : List ℕ} {last : ℕ} → d ≤ 5 → b < queueCount M (pred d) →
-      places ≡ placesOf (kept (queueWith M (pred d) b)) → last ≡ total places d → set places d last ≡ placesOf (kept (firstOf M d b))
+      places ≡ placesOf (lastTwice (queueWith M (pred d) b)) → last ≡ total places d → set places d last ≡ placesOf (lastTwice (firstOf M d b))
   after-places zero b {places} {last} few h e here =
       let none = listed-bearable M 0 b h .0 in
       ap (λ (x : ℕ). set places 0 x) here ∙
-      ap (λ (l : List ℕ). set l 0 0) (e ∙ ap (λ (q : Queue). placesOf (kept q)) (no-position (queueWith M 0 b) none))
+      ap (λ (l : List ℕ). set l 0 0) (e ∙ ap (λ (q : Queue). placesOf (lastTwice q)) (no-position (queueWith M 0 b) none))
   after-places (suc d) b {places} few h e here =
-      let v = kept (queueWith M d b) in
-      let long : length v ≡ suc d = length-kept (queueWith M d b) ∙ ap suc (listed-bearable M d b h .0) in
-      kept-places (suc d) v few long e here ∙ ap (λ (q : Queue). placesOf (kept q)) (sym (take-all (suc d) v (omega arith)))
+      let v = lastTwice (queueWith M d b) in
+      let long : length v ≡ suc d = length-twice (queueWith M d b) ∙ ap suc (listed-bearable M d b h .0) in
+      twice-places (suc d) v few long e here ∙ ap (λ (q : Queue). placesOf (lastTwice q)) (sym (take-all (suc d) v (omega arith)))
 
 module _ (M D b : ℕ) (low : 1 ≤ D) (r : Ranges M D) (h : b < queueCount M (pred (pred D))) {queue : List ℕ}
     (e : queue ≡ placesOf (firstAfter M D b)) where
   abbrev v : Queue
   v = firstOf M (pred D) b
 
-  long : length (kept v) ≡ D
-  long = length-kept v ∙ omega (arith, first-of M (pred D) b h .0)
+  long : length (lastTwice v) ≡ D
+  long = length-twice v ∙ omega (arith, first-of M (pred D) b h .0)
 
   -- in them stands this queue
   pub after-in : queueIn D queue ≡ firstAfter M D b
-  after-in = ap (queueIn D) e ∙ in-first-places D (kept v) long (r .bound-high)
+  after-in = ap (queueIn D) e ∙ in-first-places D (lastTwice v) long (r .bound-high)
 
   -- which is small enough to be added to
   pub after-small : Small (queueIn D queue)
   after-small =
       subst Small (sym after-in)
-      (bearable-small M (kept v) (r .speed-high) (omega (arith, long, r .bound-high))
-      (subst T (sym (bearable-kept M v)) (first-of M (pred D) b h .1)))
+      (bearable-small M (lastTwice v) (r .speed-high) (omega (arith, long, r .bound-high))
+      (subst T (sym (bearable-twice M v)) (first-of M (pred D) b h .1)))
 
   -- before its last total stands the block's first queue
   pub before-in : queueIn (D - 1) queue ≡ v
   before-in =
       let shorter = first-of M (pred D) b h .0 in
-      ap (queueIn (D - 1)) e ∙ positions-in (D - 1) (kept v) (omega (arith, r .bound-high)) (omega (arith, long)) ∙
-      ap (λ (n : ℕ). queueIn n (kept v)) (one-fewer D) ∙ take-append-le (pred D) v _ (omega arith) ∙ take-all (pred D) v (omega arith)
+      ap (queueIn (D - 1)) e ∙ positions-in (D - 1) (lastTwice v) (omega (arith, r .bound-high)) (omega (arith, long)) ∙
+      ap (λ (n : ℕ). queueIn n (lastTwice v)) (one-fewer D) ∙ take-append-le (pred D) v _ (omega arith) ∙ take-all (pred D) v (omega arith)
 
   -- which has a number
   pub before-numbered : Numbered M (D - 1) queue
@@ -88,7 +88,7 @@ module _ (M D b : ℕ) (low : 1 ≤ D) (r : Ranges M D) (h : b < queueCount M (p
   after-lowest =
       let shorter = first-of M (pred D) b h in
       let more : D ≡ suc (length v) = omega (arith, shorter .0) in
-      sym (last-in D queue low) ∙ ap (λ (q : Queue). total q D) after-in ∙ ap (total (kept v)) more ∙ last-kept v ∙
+      sym (last-in D queue low) ∙ ap (λ (q : Queue). total q D) after-in ∙ ap (total (lastTwice v)) more ∙ last-twice v ∙
       ap (total v) (shorter .0) ∙ shorter .2
 
 -- a queue with an arrival stands in the places that `arrive` answers

@@ -17,9 +17,9 @@ use Rattle.laws.proofs.Longer.{no-longer-by, arrive-never-falls, bearable-carri
 use Rattle.model.proofs.Queues.{length-arrive, total-arrive, bearable-at, bearable-all, listed-bearable}
 use Rattle.model.proofs.Tests.{same-test, holds-true}
 use Rattle.queues.specs.Blocks.{queueWith, firstOf, startOf, lowestOf, Alike, Shifted, risen}
-use Rattle.slot.specs.Slot.{kept}
+use Rattle.slot.specs.Slot.{lastTwice}
 use Rattle.queues.proofs.Blocks.{number-shift, risen-none, risen-less, block-place, block-alike, first-queue}
-use Rattle.slot.proofs.Slots.{length-kept, total-kept, last-kept, bearable-kept}
+use Rattle.slot.proofs.Slots.{length-twice, total-twice, last-twice, bearable-twice}
 use Rattle.rows.specs.Rows.{afterWith}
 use Rattle.entry_lanes.specs.Lanes.{firstAfter, joined, liftOf, stepsOf, stepsTo, laneOf, Lane}
 use Rattle.entry_lanes.proofs.Firsts.{no-position}
@@ -208,18 +208,18 @@ single-lane M w v c dl lowest e =
 -- the queues after a slot in a block
 
 -- of a block the last two totals rise together
-shifted-kept : (d k : ℕ) (v w : Queue) → Alike d v w → total w d ≡ total v d + k → Shifted d k (kept v) (kept w)
-shifted-kept d k v w a e =
+shifted-twice : (d k : ℕ) (v w : Queue) → Alike d v w → total w d ≡ total v d + k → Shifted d k (lastTwice v) (lastTwice w)
+shifted-twice d k v w a e =
     record {
-      long = length-kept v ∙ ap suc (a .long);
-      long-too = length-kept w ∙ ap suc (a .long-too);
-      same = λ u h. total-kept v u (omega (arith, a .long)) ∙ a .same u h ∙ sym (total-kept w u (omega (arith, a .long-too)));
-      before-is = total-kept w d (omega (arith, a .long-too)) ∙ e ∙ ap (λ (i : ℕ). i + k) (sym (total-kept v d (omega (arith, a .long))));
+      long = length-twice v ∙ ap suc (a .long);
+      long-too = length-twice w ∙ ap suc (a .long-too);
+      same = λ u h. total-twice v u (omega (arith, a .long)) ∙ a .same u h ∙ sym (total-twice w u (omega (arith, a .long-too)));
+      before-is = total-twice w d (omega (arith, a .long-too)) ∙ e ∙ ap (λ (i : ℕ). i + k) (sym (total-twice v d (omega (arith, a .long))));
       last-is = last w (a .long-too) ∙ e ∙ ap (λ (i : ℕ). i + k) (sym (last v (a .long)));
     }
   where
-    last : (q : Queue) → length q ≡ d → total (kept q) (suc d) ≡ total q d
-    last q l = subst (λ (i : ℕ). total (kept q) (suc i) ≡ total q i) l (last-kept q)
+    last : (q : Queue) → length q ≡ d → total (lastTwice q) (suc d) ≡ total q d
+    last q l = subst (λ (i : ℕ). total (lastTwice q) (suc i) ≡ total q i) l (last-twice q)
 
 -- so along it every entry has a lane
 pub lane-says : (M D b k c dl : ℕ) → 1 ≤ D → b < queueCount M (pred (pred D)) → lowestOf M (pred D) b + k ≤ pred D * M →
@@ -233,7 +233,7 @@ lane-says M (suc zero) b k c dl low h high =
     (ap (λ (i : ℕ). length (queueWith M 0 i)) (add-zero (startOf M 0 b)) ∙ listed-bearable M 0 (startOf M 0 b) (placed .0 .within) .0) in
     subst
     (λ (i : ℕ). Lane M 1 (arrive (firstAfter M 1 b) c dl) (arrive (afterWith M 1 (startOf M 0 b + i)) c dl) (liftOf 1 c dl) (lowestOf M 0 b) i)
-    (sym none) (single-lane M (firstAfter M 1 b) (afterWith M 1 (startOf M 0 b + 0)) c dl (lowestOf M 0 b) (ap (λ (q : Queue). kept q) one))
+    (sym none) (single-lane M (firstAfter M 1 b) (afterWith M 1 (startOf M 0 b + 0)) c dl (lowestOf M 0 b) (ap (λ (q : Queue). lastTwice q) one))
 lane-says M (suc (suc n)) b k c dl low h high =
     let m = startOf M (suc n) b + k in
     let lowest = lowestOf M (suc n) b in
@@ -241,9 +241,9 @@ lane-says M (suc (suc n)) b k c dl low h high =
     let first = first-queue M (suc n) b (omega arith) h in
     let alike = block-alike M (suc n) b m (omega arith) h (placed .0 .within) (placed .0 .block-is) in
     shifted-lane M n k (firstAfter M (suc (suc n)) b) (afterWith M (suc (suc n)) m) c dl lowest
-    (shifted-kept (suc n) k (firstOf M (suc n) b) (queueWith M (suc n) m) alike (omega (arith, placed .1, first .2)))
-    (λ u l. bearable-at M (kept (firstOf M (suc n) b)) (subst T (sym (bearable-kept M (firstOf M (suc n) b))) (first .1)) u l .0)
-    (total-kept (firstOf M (suc n) b) (suc n) (omega (arith, first .0)) ∙ first .2)
+    (shifted-twice (suc n) k (firstOf M (suc n) b) (queueWith M (suc n) m) alike (omega (arith, placed .1, first .2)))
+    (λ u l. bearable-at M (lastTwice (firstOf M (suc n) b)) (subst T (sym (bearable-twice M (firstOf M (suc n) b))) (first .1)) u l .0)
+    (total-twice (firstOf M (suc n) b) (suc n) (omega (arith, first .0)) ∙ first .2)
 
 -- the steps for which every arrival leads to a bearable queue
 

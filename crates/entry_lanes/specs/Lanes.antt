@@ -10,12 +10,12 @@ use lib.Dec.{T, leb}
 use Rattle.model.specs.Counted.{Counted, weightAt, sizeAt, deadlineAt}
 use Rattle.model.specs.Queue.{Queue, total, bearable, queueCount, numberOf, arrive}
 use Rattle.queues.specs.Blocks.{firstOf, startOf, lowestOf, risen}
-use Rattle.slot.specs.Slot.{kept}
+use Rattle.slot.specs.Slot.{lastTwice}
 use Rattle.rows.specs.Tables.{lineOf, Table}
 
 -- the first queue after a slot of block b
 abbrev pub firstAfter : ℕ → ℕ → ℕ → Queue
-firstAfter M D b = kept (firstOf M (pred D) b)
+firstAfter M D b = lastTwice (firstOf M (pred D) b)
 
 -- a queue with the arrival of the entry at place j
 abbrev pub joined : Counted → Queue → ℕ → Queue

@@ -4,13 +4,13 @@
 use model::Job;
 use model::Sheet;
 use queues::number;
-use rows::Sizes;
 use rows::first_queue;
 use rows::line_at;
 use rows::put_head;
 use rows::put_pair;
+use sheets::Sizes;
 use slot::arrive;
-use slot::finishable;
+use slot::bearable;
 use slot::total;
 ghost use mathlib.Core.Path.{_≡_};
 ghost use Prim.Native.Nat.{pred, min, _+_, _*_, _≤_, _<_};
@@ -20,8 +20,8 @@ ghost use Rattle.model.specs.Queue.{total, queueIn, placesOf};
 ghost use Rattle.model.specs.Refusal.{fieldsRefusal};
 ghost use Rattle.counts.specs.Counts.{HoldsCounts};
 ghost use Rattle.slot.specs.Slot.{Small};
-ghost use Rattle.value.specs.Fills.{Fills, numberAt};
-ghost use Rattle.rows.specs.Sizes.{Measured};
+ghost use Rattle.buffers.specs.Fills.{Fills, numberAt};
+ghost use Rattle.sheets.specs.Sizes.{Measured};
 ghost use Rattle.rows.specs.Tables.{lineAt, Columns, LinesPut};
 ghost use Rattle.entry_lanes.specs.Lanes.{firstAfter, joined, liftOf, stepsOf, stepsTo, laneOf, entryLine, EntryTable};
 
@@ -51,7 +51,7 @@ fn steps_of(sizes: Sizes, queue: [u32; 6]) -> u32
     requires { ⌜ Measured sizes ⌝ }
     ensures { λ r. ⌜ r ≡ stepsOf (sizes .largest) (sizes .bound) (queueIn (sizes .bound) queue) ⌝ }
 {
-    if !finishable(sizes.largest, sizes.bound, queue) {
+    if !bearable(sizes.largest, sizes.bound, queue) {
         return 0;
     }
     let most = sizes.bound as u32 * sizes.largest;
@@ -82,7 +82,7 @@ fn lane_of(counts: &[u32; 2352], sizes: Sizes, queue: [u32; 6]) -> u32
     requires { ⌜ HoldsCounts (now counts) × Measured sizes ⌝ }
     ensures { λ r. ⌜ r ≡ laneOf (sizes .largest) (queueIn (sizes .bound) queue) ⌝ }
 {
-    if !finishable(sizes.largest, sizes.bound, queue) {
+    if !bearable(sizes.largest, sizes.bound, queue) {
         return 0;
     }
     number(counts, sizes.largest, sizes.bound, queue) as u32

@@ -12,7 +12,7 @@ use lib.ListN.{length, getD}
 use Rattle.model.specs.Counted.{Counted}
 use Rattle.model.specs.Listing.{digit, said, digitsIn, decimal, listing, listRefusal, listLines, list}
 use Rattle.model.specs.Plan.{planNeeded, rowRefusal, rowLines}
-use Rattle.model.specs.Refusal.{sheetRefusal}
+use Rattle.model.specs.Refusal.{sheetRefusal, valueLimit}
 use Rattle.model.specs.Tests.{check, _then_}
 use Rattle.laws.proofs.Codes.{rest-short}
 use Rattle.model.proofs.Tests.{check-true, check-false}
@@ -104,18 +104,18 @@ module _ (s : Counted) (least : ℕ) (plan : List ℕ) where
   pub list-refused : {number : ℕ} (room : ℕ) → number ≡ rowRefusal s (length plan) → (number ≡ 0 → ⊥) →
       listRefusal s least plan room ≡ number
   unfolding listLines rowLines
-  list-refused room e refused = first-refused (sheetRefusal s) (leb (planNeeded s) (length plan)) _ e refused
+  list-refused room e refused = first-refused (sheetRefusal valueLimit s) (leb (planNeeded s) (length plan)) _ e refused
 
   -- the buffer is too short
   pub list-short : (room : ℕ) → rowRefusal s (length plan) ≡ 0 → room < length (listing s least plan) → listRefusal s least plan room ≡ 11
   unfolding listLines rowLines
   list-short room e short =
-      second-decides (sheetRefusal s) (leb (planNeeded s) (length plan)) _ e ∙
+      second-decides (sheetRefusal valueLimit s) (leb (planNeeded s) (length plan)) _ e ∙
       check-false _ 11 (lt-leb (length (listing s least plan)) room short)
 
   -- there is room
   pub list-fits : (room : ℕ) → rowRefusal s (length plan) ≡ 0 → length (listing s least plan) ≤ room → listRefusal s least plan room ≡ 0
   unfolding listLines rowLines
   list-fits room e fits =
-      second-decides (sheetRefusal s) (leb (planNeeded s) (length plan)) _ e ∙
+      second-decides (sheetRefusal valueLimit s) (leb (planNeeded s) (length plan)) _ e ∙
       check-true _ 11 (le-leb (length (listing s least plan)) room fits)

@@ -11,7 +11,7 @@ use lib.Dec.{leb, ltb, eqb}
 use lib.ListN.{length, getD}
 use Rattle.model.specs.Counted.{Counted, sheetOf, zeroSpeed, zeroJob}
 use Rattle.model.specs.Reading.{Answer, value, refused, Reader, onward, _>>=_, _>>_, done, test, refuse, joined, numberIn, field, readSpeed, readSpeeds, readSpeedTable, readJob, readJobs, readJobTable, ended, judged, readCounted}
-use Rattle.model.specs.Refusal.{boundRight, speedCountRight, speedRight, energyRight, horizonRight, jobCountRight, weightRight, sizeRight, deadlineRight, refusalOfSpeed, speedsLines, refusalOfJob, jobsLines, fieldsRefusal, fieldLines, limitsRefusal}
+use Rattle.model.specs.Refusal.{boundRight, speedCountRight, speedRight, energyRight, horizonRight, jobCountRight, weightRight, sizeRight, deadlineRight, refusalOfSpeed, speedsLines, refusalOfJob, jobsLines, fieldsRefusal, fieldLines, limitsRefusal, valueLimit}
 use Rattle.model.specs.Tests.{check, _then_, inOrder, inTurn}
 use Rattle.model.specs.declared.Job.{Job}
 use Rattle.model.specs.declared.Speed.{Speed}
@@ -201,7 +201,7 @@ refuse-positive (suc number) bytes at = zero-lt-suc number
 judged-positive : (queues : Counted → ℕ) (s : Counted) → NeverZero (judged queues s)
 unfolding judged
 judged-positive queues s =
-    let number = limitsRefusal (queues s) s in
+    let number = limitsRefusal valueLimit (queues s) s in
     bind-positive (refuse number) (λ u. done s) (refuse-positive number) (λ u bytes at. tt)
 
 -- reading a sheet never refuses with 0

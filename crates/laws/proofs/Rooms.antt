@@ -11,91 +11,94 @@ use lib.Dec.{leb, ltb, eqb, leb→le}
 use lib.ListN.{length, take, drop, length-drop}
 use lib.Seq.{length-take-le}
 use Rattle.model.specs.Counted.{Counted}
-use Rattle.model.specs.Plan.{placeAt, valuesNeeded, planNeeded, planRefusal, planLines, rowRefusal, rowLines, row}
-use Rattle.model.specs.Refusal.{N, sheetRefusal}
+use Rattle.model.specs.Plan.{placeAt, valuePlaces, planNeeded, planRefusal, planLines, rowRefusal, rowLines, row}
+use Rattle.model.specs.Refusal.{N, sheetRefusal, valueLimit}
 use Rattle.model.specs.Tests.{_then_}
+use Rattle.model.specs.Width.{Width}
 use Rattle.model.proofs.Refusal.{accepted, N-low}
 use Rattle.model.proofs.Tests.{and-left, and-right, and-fails-right, check-zero, check-true, check-false, then-left, then-right, then-on, then-stops}
 
 module _ (s : Counted) where
   -- a sheet that is refused is refused with its number, whatever is tested later
-  sheet-refused : (later : ℕ) {number : ℕ} → number ≡ sheetRefusal s → (number ≡ 0 → ⊥) → number ≡ sheetRefusal s then later
-  sheet-refused later {number = number} e some = sym (rw (← e) (then-stops number later some))
+  sheet-refused : (limit later : ℕ) {number : ℕ} → number ≡ sheetRefusal limit s → (number ≡ 0 → ⊥) → number ≡ sheetRefusal limit s then later
+  sheet-refused limit later {number = number} e some = sym (rw (← e) (then-stops number later some))
 
   -- the row call
 
   -- it refuses a sheet that is refused, with the sheet's number
-  pub row-refused : (room : ℕ) {number : ℕ} → number ≡ sheetRefusal s → (number ≡ 0 → ⊥) → number ≡ rowRefusal s room
+  pub row-refused : (room : ℕ) {number : ℕ} → number ≡ sheetRefusal valueLimit s → (number ≡ 0 → ⊥) → number ≡ rowRefusal s room
   unfolding rowLines
-  row-refused room e some = sheet-refused _ e some
+  row-refused room e some = sheet-refused valueLimit _ e some
 
   -- and 11 where the plan is too short
-  pub row-short : (room : ℕ) → sheetRefusal s ≡ 0 → room < planNeeded s → 11 ≡ rowRefusal s room
+  pub row-short : (room : ℕ) → sheetRefusal valueLimit s ≡ 0 → room < planNeeded s → 11 ≡ rowRefusal s room
   unfolding rowLines
-  row-short room e h = sym (then-on (sheetRefusal s) _ e ∙ check-false _ 11 (lt-leb (planNeeded s) room h))
+  row-short room e h = sym (then-on (sheetRefusal valueLimit s) _ e ∙ check-false _ 11 (lt-leb (planNeeded s) room h))
 
   -- and 0 otherwise
-  pub row-fits : (room : ℕ) → sheetRefusal s ≡ 0 → planNeeded s ≤ room → 0 ≡ rowRefusal s room
+  pub row-fits : (room : ℕ) → sheetRefusal valueLimit s ≡ 0 → planNeeded s ≤ room → 0 ≡ rowRefusal s room
   unfolding rowLines
-  row-fits room e h = sym (then-on (sheetRefusal s) _ e ∙ check-true _ 11 (le-leb (planNeeded s) room h))
+  row-fits room e h = sym (then-on (sheetRefusal valueLimit s) _ e ∙ check-true _ 11 (le-leb (planNeeded s) room h))
 
   -- what a row call that is not refused has: an accepted sheet, and room for the plan
-  pub row-accepted : (room : ℕ) → rowRefusal s room ≡ 0 → (sheetRefusal s ≡ 0) × (planNeeded s ≤ room)
+  pub row-accepted : (room : ℕ) → rowRefusal s room ≡ 0 → (sheetRefusal valueLimit s ≡ 0) × (planNeeded s ≤ room)
   unfolding rowLines
   row-accepted room e = (
-    then-left (sheetRefusal s) _ e,
-    leb→le (planNeeded s) room (check-zero (leb (planNeeded s) room) 10 (then-right (sheetRefusal s) _ e)),
+    then-left (sheetRefusal valueLimit s) _ e,
+    leb→le (planNeeded s) room (check-zero (leb (planNeeded s) room) 10 (then-right (sheetRefusal valueLimit s) _ e)),
   )
 
   -- every place of the sheet's slots and queues is then within the plan
   pub place-within : (room t i : ℕ) → rowRefusal s room ≡ 0 → t < s .horizon → i < N s → placeAt s t i < room
   place-within room t i e h l = omega (arith, suc-mul t (N s), mul-le-mul-right (N s) h, row-accepted room e .1)
 
-  -- the planner
+  -- the planner, at any width
 
-  -- it refuses a sheet that is refused, with the sheet's number
-  pub plan-refused : (valuesRoom planRoom : ℕ) {number : ℕ} → number ≡ sheetRefusal s → (number ≡ 0 → ⊥) →
-      number ≡ planRefusal s valuesRoom planRoom
-  unfolding planLines
-  plan-refused valuesRoom planRoom e some = sheet-refused _ e some
+  module _ (width : Width) where
+    -- it refuses a sheet that is refused, with the sheet's number
+    pub plan-refused : (valuesRoom planRoom : ℕ) {number : ℕ} → number ≡ sheetRefusal (width .limit) s → (number ≡ 0 → ⊥) →
+        number ≡ planRefusal width s valuesRoom planRoom
+    unfolding planLines
+    plan-refused valuesRoom planRoom e some = sheet-refused (width .limit) _ e some
 
-  -- and 11 where the values are too short
-  pub plan-short-values : (valuesRoom planRoom : ℕ) → sheetRefusal s ≡ 0 → valuesRoom < valuesNeeded s →
-      11 ≡ planRefusal s valuesRoom planRoom
-  unfolding planLines
-  plan-short-values valuesRoom planRoom e h =
-      sym
-      (then-on (sheetRefusal s) _ e ∙
-      check-false _ 11 (ap (λ (b : Bool). b && leb (planNeeded s) planRoom) (lt-leb (valuesNeeded s) valuesRoom h)))
+    -- and 11 where the values are too short
+    pub plan-short-values : (valuesRoom planRoom : ℕ) → sheetRefusal (width .limit) s ≡ 0 → valuesRoom < valuePlaces width s →
+        11 ≡ planRefusal width s valuesRoom planRoom
+    unfolding planLines
+    plan-short-values valuesRoom planRoom e h =
+        sym
+        (then-on (sheetRefusal (width .limit) s) _ e ∙
+        check-false _ 11 (ap (λ (b : Bool). b && leb (planNeeded s) planRoom) (lt-leb (valuePlaces width s) valuesRoom h)))
 
-  -- or the plan is
-  pub plan-short-plan : (valuesRoom planRoom : ℕ) → sheetRefusal s ≡ 0 → planRoom < planNeeded s → 11 ≡ planRefusal s valuesRoom planRoom
-  unfolding planLines
-  plan-short-plan valuesRoom planRoom e h =
-      sym
-      (then-on (sheetRefusal s) _ e ∙
-      check-false _ 11 (and-fails-right (leb (valuesNeeded s) valuesRoom) _ (lt-leb (planNeeded s) planRoom h)))
+    -- or the plan is
+    pub plan-short-plan : (valuesRoom planRoom : ℕ) → sheetRefusal (width .limit) s ≡ 0 → planRoom < planNeeded s →
+        11 ≡ planRefusal width s valuesRoom planRoom
+    unfolding planLines
+    plan-short-plan valuesRoom planRoom e h =
+        sym
+        (then-on (sheetRefusal (width .limit) s) _ e ∙
+        check-false _ 11 (and-fails-right (leb (valuePlaces width s) valuesRoom) _ (lt-leb (planNeeded s) planRoom h)))
 
-  -- and 0 otherwise
-  pub plan-fits : (valuesRoom planRoom : ℕ) → sheetRefusal s ≡ 0 → valuesNeeded s ≤ valuesRoom → planNeeded s ≤ planRoom →
-      0 ≡ planRefusal s valuesRoom planRoom
-  unfolding planLines
-  plan-fits valuesRoom planRoom e h k =
-      let values = ap (λ (b : Bool). b && leb (planNeeded s) planRoom) (le-leb (valuesNeeded s) valuesRoom h) in
-      sym (then-on (sheetRefusal s) _ e ∙ check-true _ 11 (values ∙ le-leb (planNeeded s) planRoom k))
+    -- and 0 otherwise
+    pub plan-fits : (valuesRoom planRoom : ℕ) → sheetRefusal (width .limit) s ≡ 0 → valuePlaces width s ≤ valuesRoom →
+        planNeeded s ≤ planRoom → 0 ≡ planRefusal width s valuesRoom planRoom
+    unfolding planLines
+    plan-fits valuesRoom planRoom e h k =
+        let values = ap (λ (b : Bool). b && leb (planNeeded s) planRoom) (le-leb (valuePlaces width s) valuesRoom h) in
+        sym (then-on (sheetRefusal (width .limit) s) _ e ∙ check-true _ 11 (values ∙ le-leb (planNeeded s) planRoom k))
 
-  -- what a plan that is not refused has: an accepted sheet, and room for the values and the plan
-  pub plan-accepted : (valuesRoom planRoom : ℕ) → planRefusal s valuesRoom planRoom ≡ 0 →
-      (sheetRefusal s ≡ 0) × (valuesNeeded s ≤ valuesRoom) × (planNeeded s ≤ planRoom)
-  unfolding planLines
-  plan-accepted valuesRoom planRoom e =
-      let values = leb (valuesNeeded s) valuesRoom in
-      let plan = leb (planNeeded s) planRoom in
-      let both = check-zero (values && plan) 10 (then-right (sheetRefusal s) _ e) in (
-        then-left (sheetRefusal s) _ e,
-        leb→le (valuesNeeded s) valuesRoom (and-left values plan both),
-        leb→le (planNeeded s) planRoom (and-right values plan both),
-      )
+    -- what a plan that is not refused has: an accepted sheet, and room for the values and the plan
+    pub plan-accepted : (valuesRoom planRoom : ℕ) → planRefusal width s valuesRoom planRoom ≡ 0 →
+        (sheetRefusal (width .limit) s ≡ 0) × (valuePlaces width s ≤ valuesRoom) × (planNeeded s ≤ planRoom)
+    unfolding planLines
+    plan-accepted valuesRoom planRoom e =
+        let values = leb (valuePlaces width s) valuesRoom in
+        let plan = leb (planNeeded s) planRoom in
+        let both = check-zero (values && plan) 10 (then-right (sheetRefusal (width .limit) s) _ e) in (
+          then-left (sheetRefusal (width .limit) s) _ e,
+          leb→le (valuePlaces width s) valuesRoom (and-left values plan both),
+          leb→le (planNeeded s) planRoom (and-right values plan both),
+        )
 
   -- the row
 

@@ -12,7 +12,7 @@ use lib.Seq.{take-all, take-take, take-at, length-take-le}
 use Rattle.model.specs.Bytes.{AreBytes, code, speedBytes, jobBytes, sheetBytes, BytesOf, writeRefusal, writeLines, write}
 use Rattle.model.specs.Counted.{Counted, WellCounted, sheetOf, counted, inMemory, zeroSpeed, zeroJob}
 use Rattle.model.specs.Reading.{Answer, value, refused, readSpeedTable, readJobTable, judged, readCounted, readAnswer, read}
-use Rattle.model.specs.Refusal.{boundRight, speedCountRight, horizonRight, jobCountRight, speedsRefusal, speedsLines, jobsLines, fieldsRefusal, fieldLines, limitsRefusal, linesGiven, sheetRefusal, sheetLines, N}
+use Rattle.model.specs.Refusal.{boundRight, speedCountRight, horizonRight, jobCountRight, speedsRefusal, speedsLines, jobsLines, fieldsRefusal, fieldLines, limitsRefusal, linesGiven, sheetRefusal, sheetLines, N, valueLimit}
 use Rattle.model.specs.Tests.{inTurn, padded}
 use Rattle.model.specs.declared.Sheet.{Sheet}
 use Rattle.laws.proofs.Codes.{field-code, field-bytes}
@@ -107,7 +107,7 @@ stand-code before (x ∷ l) a = (
 )
 
 -- bytes that end where the fields of an accepted sheet stand are read as that sheet
-stand-read : (bytes : List ℕ) (s : Counted) → sheetRefusal s ≡ 0 → WellCounted s → Stand bytes 0 (sheetFields s) (length bytes) →
+stand-read : (bytes : List ℕ) (s : Counted) → sheetRefusal valueLimit s ≡ 0 → WellCounted s → Stand bytes 0 (sheetFields s) (length bytes) →
     readCounted N bytes 0 ≡ value s (length bytes)
 unfolding sheetLines linesGiven fieldLines speedsLines jobsLines readCounted readSpeedTable readJobTable judged sheetFields
 stand-read bytes s e w stands =
@@ -134,7 +134,7 @@ stand-read bytes s e w stands =
     )
 
 -- an accepted sheet's bytes are read as that sheet, to their end
-pub read-written : (s : Counted) → sheetRefusal s ≡ 0 → WellCounted s → readCounted N (sheetBytes s) 0 ≡ value s (length (sheetBytes s))
+pub read-written : (s : Counted) → sheetRefusal valueLimit s ≡ 0 → WellCounted s → readCounted N (sheetBytes s) 0 ≡ value s (length (sheetBytes s))
 unfolding sheetLines linesGiven
 read-written s e w =
     let small = sheet-small s (ranged s (then-left (fieldsRefusal s) _ e)) in
@@ -167,7 +167,7 @@ written-read bytes are s next e =
     let (jobs, d, n, e4) = onward-gave (readJobTable D bytes c) _ e3 in
     let (end, e5) = test-gave (leb (length bytes) d) 3 bytes d _ e4 in
     let made = sheetOf D speeds T jobs in
-    let (k, e6) = refuse-gave (limitsRefusal (N made) made) bytes d _ e5 in
+    let (k, e6) = refuse-gave (limitsRefusal valueLimit (N made) made) bytes d _ e5 in
     let (speedsStand, _, _) = table-gave speed-entries speedCountRight 5 bytes a speeds b m in
     let (jobsStand, _, _) = table-gave (job-entries D) jobCountRight 8 bytes c jobs d n in
     let rest =
@@ -175,7 +175,7 @@ written-read bytes are s next e =
     a b d speedsStand (c, g, jobsStand) in
     subst (BytesOf bytes) (value-same {m = d} e6 .0) (record {
       bytes-are = stand-written bytes are made d (leb-true (length bytes) d end) (a, f, rest);
-      is-accepted = then-both (fieldsRefusal made) (limitsRefusal (N made) made) (fields-read bytes D T speeds jobs a b c d t m u n) k;
+      is-accepted = then-both (fieldsRefusal made) (limitsRefusal valueLimit (N made) made) (fields-read bytes D T speeds jobs a b c d t m u n) k;
       well-counted = record { speeds-counted = refl; jobs-counted = refl };
     })
 
@@ -195,7 +195,7 @@ accepted-read bytes are e =
     (s, written-read bytes are s next d, ap (λ (x : Answer Counted). readAnswer x .sheet) d)
 
 -- the bytes of an accepted sheet are accepted, and read as that sheet, the places past its counts zero
-pub written-accepted : (s : Counted) → sheetRefusal s ≡ 0 → WellCounted s →
+pub written-accepted : (s : Counted) → sheetRefusal valueLimit s ≡ 0 → WellCounted s →
     (read (sheetBytes s) .number ≡ 0) × (read (sheetBytes s) .sheet ≡ inMemory s)
 unfolding read
 written-accepted s e w =
@@ -209,17 +209,17 @@ write-number s buffer = written-number (writeRefusal s (length buffer)) (sheetBy
 
 -- the number of an accepted sheet's write, by the room that it has
 
-pub write-fits : (s : Counted) (room : ℕ) → sheetRefusal s ≡ 0 → length (sheetBytes s) ≤ room → writeRefusal s room ≡ 0
+pub write-fits : (s : Counted) (room : ℕ) → sheetRefusal valueLimit s ≡ 0 → length (sheetBytes s) ≤ room → writeRefusal s room ≡ 0
 unfolding writeLines
-write-fits s room e h = then-on (sheetRefusal s) _ e ∙ check-true _ 11 (le-leb (length (sheetBytes s)) room h)
+write-fits s room e h = then-on (sheetRefusal valueLimit s) _ e ∙ check-true _ 11 (le-leb (length (sheetBytes s)) room h)
 
-pub write-short : (s : Counted) (room : ℕ) → sheetRefusal s ≡ 0 → room < length (sheetBytes s) → writeRefusal s room ≡ 11
+pub write-short : (s : Counted) (room : ℕ) → sheetRefusal valueLimit s ≡ 0 → room < length (sheetBytes s) → writeRefusal s room ≡ 11
 unfolding writeLines
-write-short s room e h = then-on (sheetRefusal s) _ e ∙ check-false _ 11 (lt-leb (length (sheetBytes s)) room h)
+write-short s room e h = then-on (sheetRefusal valueLimit s) _ e ∙ check-false _ 11 (lt-leb (length (sheetBytes s)) room h)
 
 -- a write that was not refused: the sheet is accepted, and its bytes stand first in the buffer
 pub record WrittenOut (s : Counted) (buffer : List ℕ) : Type 0 where
-  pub is-accepted : sheetRefusal s ≡ 0
+  pub is-accepted : sheetRefusal valueLimit s ≡ 0
   pub length-is : write s buffer .written ≡ length (sheetBytes s)
   pub bytes-stand : take (length (sheetBytes s)) (write s buffer .buffer) ≡ sheetBytes s
 
@@ -228,7 +228,7 @@ unfolding write writeLines
 written-out s buffer e =
     let none : writeRefusal s (length buffer) ≡ 0 = sym (write-number s buffer) ∙ e in
     record {
-      is-accepted = then-left (sheetRefusal s) _ none;
+      is-accepted = then-left (sheetRefusal valueLimit s) _ none;
       length-is = rw none;
       bytes-stand = rw none (take-at (sheetBytes s) (drop (length (sheetBytes s)) buffer) (length (sheetBytes s)) refl);
     }

@@ -10,7 +10,7 @@ use lib.ListN.{length, getD}
 use Rattle.model.specs.Counted.{Counted, sizeAt, deadlineAt, onSheet, energyOf, greatestEnergy, M}
 use Rattle.model.specs.Plan.{placeOfQueue, rowRefusal}
 use Rattle.model.specs.Queue.{total, placesOf, bearable, oneSlot}
-use Rattle.model.specs.Refusal.{sheetRefusal}
+use Rattle.model.specs.Refusal.{sheetRefusal, valueLimit}
 use Rattle.model.specs.Stepper.{State, queueOf, queueRight, stateRight, zeroState, startRefusal, startLines, start, planByte, byteRight, speedRefusal, speedLines, speed, isEntryAt, isEntry, moved, nextRefusal, advanceRefusal, advanceLines, advance}
 use Rattle.model.specs.Tests.{check, _then_}
 use Rattle.model.proofs.Tests.{anywhere-one, and-both, and-left, and-right, and-fails-right, check-zero, check-true, check-false, then-left, then-right, then-on, then-passes, then-fails, then-stops}
@@ -26,19 +26,19 @@ module _ (s : Counted) where
   start-by x e = λ i. record { number = e i; state = cond (eqb (e i) 0) (record { queue = x .queue; slot = 0; energy = 0 }) zeroState }
 
   -- it refuses a sheet that is refused, with the sheet's number
-  pub start-refusal-sheet : (x : State) {number : ℕ} → number ≡ sheetRefusal s → (number ≡ 0 → ⊥) → startRefusal s x ≡ number
+  pub start-refusal-sheet : (x : State) {number : ℕ} → number ≡ sheetRefusal valueLimit s → (number ≡ 0 → ⊥) → startRefusal s x ≡ number
   unfolding startLines
   start-refusal-sheet x {number = number} e some = rw (← e) (then-stops number _ some)
 
   -- and 13 where the queue is not right
-  pub start-refusal-13 : (x : State) → sheetRefusal s ≡ 0 → queueRight s x ≡ false → startRefusal s x ≡ 13
+  pub start-refusal-13 : (x : State) → sheetRefusal valueLimit s ≡ 0 → queueRight s x ≡ false → startRefusal s x ≡ 13
   unfolding startLines
-  start-refusal-13 x e wrong = then-on (sheetRefusal s) _ e ∙ check-false (queueRight s x) 13 wrong
+  start-refusal-13 x e wrong = then-on (sheetRefusal valueLimit s) _ e ∙ check-false (queueRight s x) 13 wrong
 
   -- and 0 otherwise
-  pub start-refusal-0 : (x : State) → sheetRefusal s ≡ 0 → queueRight s x ≡ true → startRefusal s x ≡ 0
+  pub start-refusal-0 : (x : State) → sheetRefusal valueLimit s ≡ 0 → queueRight s x ≡ true → startRefusal s x ≡ 0
   unfolding startLines
-  start-refusal-0 x e right = then-on (sheetRefusal s) _ e ∙ check-true (queueRight s x) 13 right
+  start-refusal-0 x e right = then-on (sheetRefusal valueLimit s) _ e ∙ check-true (queueRight s x) 13 right
 
   -- 4 to 10 and 11 are the row call's tests
   speed-in-parts : (plan : List ℕ) (x : State) →

@@ -18,7 +18,7 @@ use Rattle.process.proofs.Value.{first-step, plan-least, value-some-is, first-p
 use Rattle.model.specs.Counted.{Counted, speedAt, sizeAt, deadlineAt, weightAt, onSheet, energyOf, greatestEnergy, M}
 use Rattle.model.specs.Plan.{nextQueue, processOf, HasValue, noSpeed, placeOfQueue, rowRefusal}
 use Rattle.model.specs.Queue.{Queue, total, positions, queueIn, placesOf, bearable, unusedZero, bearableIn, oneSlot}
-use Rattle.model.specs.Refusal.{sheetRefusal}
+use Rattle.model.specs.Refusal.{sheetRefusal, valueLimit}
 use Rattle.model.specs.Stepper.{State, queueOf, queueRight, stateRight, start, planByte, byteRight, speedRefusal, speed, isEntry, moved, energyLimit, nextRefusal, advanceRefusal, advance}
 use Rattle.model.specs.Tests.{check}
 use Rattle.model.proofs.Admissible.{good-bearable}
@@ -45,7 +45,7 @@ pub record Going (s : Counted) (t : ℕ) (x : State) : Type 0 where
 
 module _ (s : Counted) where
   -- of a right state of an accepted sheet, the energy and one slot's more of any sheet speed stay below 2^32, so that 18 cannot be met
-  pub energy-small : sheetRefusal s ≡ 0 → (x : State) → T (stateRight s x) → (a : ℕ) → T (onSheet s a) →
+  pub energy-small : sheetRefusal valueLimit s ≡ 0 → (x : State) → T (stateRight s x) → (a : ℕ) → T (onSheet s a) →
       x .energy + energyOf s a ≤ energyLimit
   energy-small e x t a on =
       let ranges = accepted s e .ranged in
@@ -55,17 +55,17 @@ module _ (s : Counted) where
       omega (arith, state .2, mul-le-mul slot most, most, energy-of-upto s a on)
 
   -- a queue that has a value is bearable
-  pub value-bearable : sheetRefusal s ≡ 0 → (t : ℕ) (w : Queue) → HasValue s t w → T (bearable (M s) w)
+  pub value-bearable : sheetRefusal valueLimit s ≡ 0 → (t : ℕ) (w : Queue) → HasValue s t w → T (bearable (M s) w)
   value-bearable e t w v = good-bearable s (accepted s e .ranged .jobs-low) (s .horizon - t) w (v .1 .way) (v .1 .holds)
 
   -- so that what stands in the places is right where the unused ones are zero
-  pub right-with-value : sheetRefusal s ≡ 0 → (t : ℕ) (x : State) → T (unusedZero (s .bound) (x .queue)) → HasValue s t (queueOf s x) →
+  pub right-with-value : sheetRefusal valueLimit s ≡ 0 → (t : ℕ) (x : State) → T (unusedZero (s .bound) (x .queue)) → HasValue s t (queueOf s x) →
       T (queueRight s x)
   unfolding bearableIn
   right-with-value e t x unused v = and-both (bearable (M s) (queueOf s x)) _ (value-bearable e t (queueOf s x) v) unused
 
   -- start from a right queue answers 0, and gives slot 0 and energy 0
-  pub started : sheetRefusal s ≡ 0 → (x : State) → T (queueRight s x) →
+  pub started : sheetRefusal valueLimit s ≡ 0 → (x : State) → T (queueRight s x) →
       start s x ≡ record { number = 0; state = record { queue = x .queue; slot = 0; energy = 0 } }
   started e x right = start-by s x (start-refusal-0 s x e (holds-true (queueRight s x) right))
 
@@ -212,7 +212,7 @@ module _ (s : Counted) where
   plannedWay t w = ruled (processOf s) planned (s .horizon - t) w
 
   -- from a queue that has a value there it is a least good way
-  pub planned-least : sheetRefusal s ≡ 0 → (t : ℕ) (w : Queue) → HasValue s t w →
+  pub planned-least : sheetRefusal valueLimit s ≡ 0 → (t : ℕ) (w : Queue) → HasValue s t w →
       IsLeast (processOf s) (s .jobCount) (weightAt s) (s .horizon - t) w (plannedWay t w)
   planned-least e t w v =
       let jobs-low = accepted s e .ranged .jobs-low in
@@ -220,7 +220,7 @@ module _ (s : Counted) where
       (value-some-is (processOf s) (s .jobCount) (weightAt s) jobs-low (s .horizon - t) w (v .0) (v .1))
 
   -- a right plan holds these speeds
-  right-planned : sheetRefusal s ≡ 0 → (plan : List ℕ) → RightPlan s plan →
+  right-planned : sheetRefusal valueLimit s ≡ 0 → (plan : List ℕ) → RightPlan s plan →
       (t : ℕ) → t < s .horizon → (w : Queue) → length w ≡ s .bound → HasValue s t w →
       getD plan (placeOfQueue s t w) 0 ≡ planned (s .horizon - t) w
   unfolding processOf
@@ -234,7 +234,7 @@ module _ (s : Counted) where
 
   -- so, from slot t on, along entries up to the horizon, the energies of its speeds come to what that way spends along them; k slots
   -- after slot t the queue is `queue k` and the speed `speedIn k`
-  pub spends-planned : sheetRefusal s ≡ 0 → (plan : List ℕ) → RightPlan s plan →
+  pub spends-planned : sheetRefusal valueLimit s ≡ 0 → (plan : List ℕ) → RightPlan s plan →
       (t : ℕ) (arrivals : List ℕ) → t + length arrivals ≡ s .horizon → (queue : ℕ → Queue) (speedIn : ℕ → ℕ) →
       ((k : ℕ) → k < length arrivals →
       (length (queue k) ≡ s .bound) × HasValue s (t + k) (queue k) ×

@@ -8,7 +8,7 @@ ghost use mathlib.Core.Path.{_≡_};
 ghost use Prim.Native.Nat.{_*_, _^_, _≤_, max};
 ghost use lib.Dec.{leb};
 ghost use Rattle.model.specs.Counted.{counted, W, M, greatestEnergy, G};
-ghost use Rattle.model.specs.Refusal.{fieldsRefusal, limitsRefusal, N};
+ghost use Rattle.model.specs.Refusal.{fieldsRefusal, limitsRefusal, N, valueLimit};
 ghost use Rattle.counts.specs.Counts.{HoldsCounts};
 
 // What number 9 holds T times G times W to the power T to, which no value passes: 2^63 - 1.
@@ -124,7 +124,7 @@ pub fn queues_of(counts: &[u32; 2352], sheet: Sheet) -> usize
 // 9 and 10.
 pub fn limits_refusal(counts: &[u32; 2352], sheet: Sheet) -> u32
     requires { ⌜ HoldsCounts (now counts) × (fieldsRefusal (counted sheet) ≡ 0) ⌝ }
-    ensures { λ r. ⌜ r ≡ limitsRefusal (N (counted sheet)) (counted sheet) ⌝ }
+    ensures { λ r. ⌜ r ≡ limitsRefusal valueLimit (N (counted sheet)) (counted sheet) ⌝ }
 {
     if !value_fits(sheet.horizon, VALUE_LIMIT, sheet) {
         return 9;

@@ -9,7 +9,7 @@ ghost use Prim.Native.Nat.{_+_, _≤_};
 ghost use lib.ListN.{length};
 ghost use Rattle.model.specs.Counted.{counted};
 ghost use Rattle.model.specs.Listing.{scaleOf, header};
-ghost use Rattle.model.specs.Refusal.{sheetRefusal};
+ghost use Rattle.model.specs.Refusal.{sheetRefusal, valueLimit};
 ghost use Rattle.buffers.specs.Laid.{Laid};
 
 // What the header tells.
@@ -21,7 +21,7 @@ pub struct Header {
 
 // W to the power T.
 pub fn scale_of(sheet: Sheet) -> u64
-    requires { ⌜ sheetRefusal (counted sheet) ≡ 0 ⌝ }
+    requires { ⌜ sheetRefusal valueLimit (counted sheet) ≡ 0 ⌝ }
     ensures { λ r. ⌜ r ≡ scaleOf (counted sheet) ⌝ }
 {
     let weight_sum = weights(sheet) as u64;

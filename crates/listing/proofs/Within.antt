@@ -13,7 +13,7 @@ use Rattle.model.specs.Bytes.{AreBytes, written}
 use Rattle.model.specs.Counted.{Counted}
 use Rattle.model.specs.Listing.{scaleOf, header, bytesListed, lineOfSlot, listing, listRefusal, listLines, list}
 use Rattle.model.specs.Plan.{planNeeded}
-use Rattle.model.specs.Refusal.{sheetRefusal, N}
+use Rattle.model.specs.Refusal.{sheetRefusal, N, valueLimit}
 use Rattle.model.proofs.Refusal.{accepted, power-fits}
 use Rattle.model.proofs.Tests.{and-right, check-zero, then-right, turn-times}
 use Rattle.listing.specs.Calls.{IsListed}
@@ -29,7 +29,7 @@ listing-fits s least plan room e =
     let enough = leb (planNeeded s) (length plan) in
     let fitting = leb (length (listing s least plan)) room in
     leb→le (length (listing s least plan)) room
-    (and-right enough fitting (check-zero (enough && fitting) 10 (then-right (sheetRefusal s) _ e)))
+    (and-right enough fitting (check-zero (enough && fitting) 10 (then-right (sheetRefusal valueLimit s) _ e)))
 
 -- so the length is within the buffer, and 0 where the call is refused
 within : (n : ℕ) (bytes buffer : List ℕ) → (n ≡ 0 → length bytes ≤ length buffer) → written n bytes buffer .written ≤ length buffer
@@ -60,7 +60,7 @@ line-upto plan queues slot are h =
     )
 
 -- the header: of its numbers the first has at most 5 digits, the second 19, the third 20
-header-upto : (s : Counted) (least : ℕ) → sheetRefusal s ≡ 0 → least < 2 ^ 64 → length (header (N s) (scaleOf s) least) ≤ 66
+header-upto : (s : Counted) (least : ℕ) → sheetRefusal valueLimit s ≡ 0 → least < 2 ^ 64 → length (header (N s) (scaleOf s) least) ≤ 66
 header-upto s least e h =
     let queues = digits-upto 20 5 (N s) (omega arith) (omega (arith, accepted s e .queues-high)) in
     let scale = digits-upto 20 19 (scaleOf s) (omega arith) (omega (arith, power-fits s (accepted s e) (s .horizon) (omega arith))) in
@@ -68,7 +68,7 @@ header-upto s least e h =
     omega (arith, header-length (N s) (scaleOf s) least refl refl refl, queues, scale, energy)
 
 -- how long a listing is at most: 66 bytes for the header; for each slot four for each queue, and five
-pub listing-upto : (s : Counted) (least : ℕ) (plan : List ℕ) → sheetRefusal s ≡ 0 → least < 2 ^ 64 → AreBytes plan →
+pub listing-upto : (s : Counted) (least : ℕ) (plan : List ℕ) → sheetRefusal valueLimit s ≡ 0 → least < 2 ^ 64 → AreBytes plan →
     length (listing s least plan) ≤ 66 + s .horizon * (5 + 4 * N s)
 unfolding listing
 listing-upto s least plan e h are =

@@ -15,11 +15,12 @@ use Rattle.process.proofs.Sums.{same-true}
 use Rattle.process.proofs.Value.{value-is, first-is, cost-is}
 use Rattle.model.specs.Cases.{Case, planned, valued, decides, answers, costs, refuses, reads, views, counts, fields, steps, tells, numbers, lists, tests, Holds, AllHold, casesOfA, casesOfHopeless, casesP, casesOfPlans, casesOfQueues, casesOfRefusals, casesOfBytes, casesOfSteps, casesOfListings, cases}
 use Rattle.model.specs.Counted.{Counted, counted, speedAt, weightAt, onSheet, M}
-use Rattle.model.specs.Plan.{processOf, IsValueAt, IsPlanByte, queueAt, valueIn, number12}
+use Rattle.model.specs.Plan.{processOf, IsValueAt, IsPlanByte, queueAt, number12}
 use Rattle.model.specs.Queue.{Queue, emptyQueue, bearable, continuationCount}
 use Rattle.model.specs.Reading.{Answer, refused, readCounted, ReadSheet, readAnswer, read}
 use Rattle.model.specs.Reading
-use Rattle.model.specs.Refusal.{N, refusalGiven, sheetRefusal, sheetLines}
+use Rattle.model.specs.Width.{narrow, valueIn}
+use Rattle.model.specs.Refusal.{N, refusalGiven, sheetRefusal, sheetLines, valueLimit}
 use Rattle.model.specs.Stepper.{State, speed}
 use Rattle.model.specs.declared.Job.{Job}
 use Rattle.model.specs.declared.Sheet.{Sheet}
@@ -125,9 +126,9 @@ quickN-is : (s : Counted) → N s ≡ quickN s
 unfolding N quickN
 quickN-is s = queue-count (M s) (s .bound)
 
-refusal-is : (s : Counted) → sheetRefusal s ≡ refusalGiven (quickN s) s
+refusal-is : (s : Counted) → sheetRefusal valueLimit s ≡ refusalGiven valueLimit (quickN s) s
 unfolding sheetLines
-refusal-is s = ap (λ (n : ℕ). refusalGiven n s) (quickN-is s)
+refusal-is s = ap (λ (n : ℕ). refusalGiven valueLimit n s) (quickN-is s)
 
 read-is : (bytes : List ℕ) → read bytes ≡ readAnswer (readCounted quickN bytes 0)
 unfolding read
@@ -207,8 +208,7 @@ planned-sound s t values plan b =
       eqb→eq (length plan) n (told .2) ∙ sym (quickN-is s),
       λ i h.
           let tested = everywhere-at (rowTest s t values plan) n (told .3) i (subst (λ (m : ℕ). i < m) (quickN-is s) h) in
-          let decided = decides-sound s (told .0) t (queueAt s i) (valueIn values i) (getD plan i 0) tested in
-          record { r = valueIn values i; is-value = decided .0; in-values = refl; in-plan = decided .1 },
+          decides-sound s (told .0) t (queueAt s i) (valueIn narrow values i) (getD plan i 0) tested,
     )
 
 -- a case whose test passes holds
@@ -236,7 +236,7 @@ sound (answers s number queues least) b =
 sound (costs s t w a v) b =
     cost-sound s (and-left (orderly s) (costTest s (s .horizon - t) w a v) b) (s .horizon - t) w a v
     (and-right (orderly s) (costTest s (s .horizon - t) w a v) b)
-sound (refuses s number) b = refusal-is s ∙ eqb→eq (refusalGiven (quickN s) s) number b
+sound (refuses s number) b = refusal-is s ∙ eqb→eq (refusalGiven valueLimit (quickN s) s) number b
 sound (reads bytes number memory) b =
     let quick = readAnswer (readCounted quickN bytes 0) in
     let told : T (eqb (quick .number) number) × T (sameCounted (whole (quick .sheet)) (whole memory)) = (

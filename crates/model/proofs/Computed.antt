@@ -13,11 +13,12 @@ use Rattle.model.specs.Bytes.{codeIn, speedBytes, jobBytes, sheetBytes, 
 use Rattle.model.specs.Cases.{Case, planned, valued, decides, answers, costs, refuses, reads, views, counts, fields, steps, tells, numbers, lists, tests, casesOfA, casesOfHopeless, casesP, casesOfPlans, casesOfQueues, casesOfRefusals, casesOfBytes, casesOfSteps, casesOfListings}
 use Rattle.model.specs.Counted.{Counted, counted, speedAt, weightAt, speedsOf, onSheet, energyOf, W, M, greatestEnergy, G}
 use Rattle.model.specs.Listing.{digitsIn, header, bytesListed, lineOf, listing, refusedLine, listLines, list}
-use Rattle.model.specs.Plan.{nextQueue, processOf, admissible, queueAt, valueIn, number12, planLines, rowLines, row}
+use Rattle.model.specs.Plan.{nextQueue, processOf, admissible, queueAt, number12, planLines, rowLines, row}
 use Rattle.model.specs.Queue.{Queue, emptyQueue, bearable, bearableIn, run, arrive, eachTotal, continuations, bearableQueues, queueCount, placeIn, numberOf, continuationCount}
 use Rattle.model.specs.Reading.{Answer, refused, numberIn, readSpeed, readSpeeds, readSpeedTable, readJob, readJobs, readJobTable, judged, readCounted, readAnswer}
 use Rattle.model.specs.Reading
-use Rattle.model.specs.Refusal.{speedsLines, jobsLines, fieldLines, limitLines, N, refusalGiven, linesGiven, sheetLines}
+use Rattle.model.specs.Width.{narrow, numberFrom, valueIn}
+use Rattle.model.specs.Refusal.{speedsLines, jobsLines, fieldLines, limitLines, N, refusalGiven, linesGiven, sheetLines, valueLimit}
 use Rattle.model.specs.Stepper.{State, stateRight, startLines, start, planByte, byteRight, speedLines, speed, isEntry, moved, advanceLines, advance}
 use Rattle.model.specs.declared.Job.{Job}
 use Rattle.model.specs.declared.Sheet.{Sheet}
@@ -105,7 +106,7 @@ costTest s (suc k) w a v =
 -- the test of a case
 
 unfoldable pub rowTest : Counted → ℕ → List ℕ → List ℕ → ℕ → Bool
-rowTest s t values plan i = decidesTest s (s .horizon - t) (queueAt s i) (valueIn values i) (getD plan i 0)
+rowTest s t values plan i = decidesTest s (s .horizon - t) (queueAt s i) (valueIn narrow values i) (getD plan i 0)
 
 unfoldable pub test : Case → Bool
 test (planned s t values plan) =
@@ -116,7 +117,7 @@ test (answers s number queues least) =
     let r = valueFor s (s .horizon - 0) (emptyQueue (s .bound)) in
     orderly s && (eqb number (number12 r) && (eqb least (Option·getD r 0) && eqb (quickN s) queues))
 test (costs s t w a v) = orderly s && costTest s (s .horizon - t) w a v
-test (refuses s number) = eqb (refusalGiven (quickN s) s) number
+test (refuses s number) = eqb (refusalGiven valueLimit (quickN s) s) number
 test (reads bytes number memory) =
     let answer = readAnswer (readCounted quickN bytes 0) in
     eqb (answer .number) number && sameCounted (whole (answer .sheet)) (whole memory)
@@ -150,7 +151,7 @@ pub record EachListPasses : Type 0 where
   pub listings : AllPass casesOfListings
 
 pub each-list-passes : EachListPasses
-unfolding casesP casesOfA casesOfHopeless casesOfPlans casesOfQueues casesOfRefusals casesOfBytes casesOfSteps casesOfListings firstFailing test quickN orderly byteTest decidesTest costTest rowTest sameOption sameAnswer sameState sameBy sameSpeed sameJob sameCounted sameBool sum sumOrNone cheaper best priced choice value plan codeIn speedBytes jobBytes sheetBytes writeLines write digitsIn header bytesListed lineOf listing refusedLine listLines list speedsOf onSheet energyOf W M greatestEnergy G nextQueue processOf admissible planLines rowLines row bearable bearableIn run arrive eachTotal continuations bearableQueues queueCount placeIn numberOf continuationCount numberIn readSpeed readSpeeds readSpeedTable readJob readJobs readJobTable judged readCounted speedsLines jobsLines fieldLines limitLines N linesGiven sheetLines stateRight startLines start planByte byteRight speedLines speed isEntry moved advanceLines advance inOrder inTurn everywhere anywhere firstPlace greatest listed same
+unfolding casesP casesOfA casesOfHopeless casesOfPlans casesOfQueues casesOfRefusals casesOfBytes casesOfSteps casesOfListings firstFailing test quickN orderly byteTest decidesTest costTest rowTest sameOption sameAnswer sameState sameBy sameSpeed sameJob sameCounted sameBool sum sumOrNone cheaper best priced choice value plan codeIn speedBytes jobBytes sheetBytes writeLines write digitsIn header bytesListed lineOf listing refusedLine listLines list speedsOf onSheet energyOf W M greatestEnergy G nextQueue processOf admissible planLines rowLines row bearable bearableIn run arrive eachTotal continuations bearableQueues queueCount placeIn numberOf continuationCount numberIn readSpeed readSpeeds readSpeedTable readJob readJobs readJobTable judged readCounted speedsLines jobsLines fieldLines limitLines N linesGiven sheetLines numberFrom stateRight startLines start planByte byteRight speedLines speed isEntry moved advanceLines advance inOrder inTurn everywhere anywhere firstPlace greatest listed same
 each-list-passes = record {
   marked = refl;
   plans = refl;

@@ -1,12 +1,11 @@
 -- What the planner leaves (specs/Plan.antt, `Leaves`) is determined: of two results for the same sheet and the same lent memory, every
 -- value, every plan byte and the answer are equal. So no two different planners meet it, and no place is left open by it.
-use Prim.Native.Nat.{ℕ, zero, suc, _+_, _*_, _-_, _/_, _%_, _<_, _≤_}
+use Prim.Native.Nat.{ℕ, zero, suc, _+_, _*_, _-_, _^_, _/_, _%_, _<_, _≤_}
 use mathlib.Core.Path.{_≡_, refl, sym, ap, _∙_, subst}
 use mathlib.Core.Bool.{Bool, true, false, cond}
 use mathlib.Core.List.{List}
-use mathlib.Core.Logic.{⊎-elim}
 use mathlib.Core.Option.{Option, none, some, Option·getD}
-use native.Mathlib.Nat.{div-add-mod', div-lt-iff-lt-mul, eq-or-lt-of-le, le-of-suc-le-suc, mod-lt}
+use native.Mathlib.Nat.{add-zero, div-add-mod', div-lt-iff-lt-mul, le-of-lt, le-of-suc-le-suc, mod-lt, mul-one, mul-zero}
 use native.Mathlib.Omega.{arith}
 use borrow.Author.Tests.{eqb-true, ltb-true, ltb-false}
 use lib.Dec.{eqb, ltb}
@@ -14,11 +13,10 @@ use lib.ListN.{length, getD, drop}
 use lib.Seq.{ext-getD, getD-drop}
 use Rattle.process.proofs.Definite.{value-unique, first-unique}
 use Rattle.model.specs.Counted.{Counted, weightAt}
-use Rattle.model.specs.Plan.{processOf, IsValueAt, IsPlanByte, noValue, decoded, valueIn, queueAt, placeAt, valuesNeeded, planNeeded, planRefusal, planLines, PlanAnswer, Decided, FromEmpty, Filled, LeavesBy, Leaves, number12}
+use Rattle.model.specs.Plan.{processOf, IsValueAt, IsPlanByte, IsPlanByteAt, queueAt, placeAt, valuesNeeded, valuePlaces, planNeeded, planRefusal, PlanAnswer, AreValues, PlanFilled, ValuesFilled, FromEmpty, LeavesBy, Leaves, number12}
 use Rattle.model.specs.Queue.{Queue, emptyQueue}
-use Rattle.model.specs.Refusal.{N, sheetRefusal}
-use Rattle.model.proofs.Refusal.{accepted, N-low}
-use Rattle.model.proofs.Tests.{then-left}
+use Rattle.model.specs.Refusal.{N}
+use Rattle.model.specs.Width.{Width, narrow, numberFrom, placed, decode, valueIn}
 
 -- lists that are equal up to n, and from n on, are equal
 parts-same : (l m : List ℕ) (n : ℕ) → length l ≡ length m → ((j : ℕ) → j < n → getD l j 0 ≡ getD m j 0) → drop n l ≡ drop n m → l ≡ m
@@ -33,22 +31,39 @@ parts-same l m n long front rest = ext-getD 0 l m long (λ j h. go j (ltb j n) r
         let h = ltb-false j n e in
         at-rest l j h ∙ ap (λ (x : List ℕ). getD x (j - n) 0) rest ∙ sym (at-rest m j h)
 
--- a place says one thing: places that are read alike hold the same number
-pub decoded-same : (x y : ℕ) → decoded x ≡ decoded y → x ≡ y
-decoded-same x y = go (eqb x noValue) refl (eqb y noValue) refl
+-- numbers that say the same value are the same
+pub decode-same : (width : Width) (x y : ℕ) → decode width x ≡ decode width y → x ≡ y
+decode-same width x y = go (eqb x (width .noneCode)) refl (eqb y (width .noneCode)) refl
   where
     read-by : Bool → ℕ → Option ℕ
     read-by b z = cond b none (some z)
 
-    go : (b : Bool) → eqb x noValue ≡ b → (c : Bool) → eqb y noValue ≡ c → read-by b x ≡ read-by c y → x ≡ y
-    go true d true e q = eqb-true x noValue d ∙ sym (eqb-true y noValue e)
+    go : (b : Bool) → eqb x (width .noneCode) ≡ b → (c : Bool) → eqb y (width .noneCode) ≡ c → read-by b x ≡ read-by c y → x ≡ y
+    go true d true e q = eqb-true x (width .noneCode) d ∙ sym (eqb-true y (width .noneCode) e)
     go true d false e q = cc
     go false d true e q = cc
     go false d false e q = cc
 
+-- what is asked of two buffers of values: where they say the same value, its places hold the same numbers
+abbrev pub Telling : Width → List ℕ → List ℕ → Type 0
+Telling width l m =
+    (i p : ℕ) → p < width .places → valueIn width l i ≡ valueIn width m i → getD l (i * width .places + p) 0 ≡ getD m (i * width .places + p) 0
+
+-- at one place a value, the number at a place is what is placed there
+pub placed-narrow : (l : List ℕ) (i : ℕ) → placed narrow l i ≡ getD l i 0
+unfolding numberFrom
+placed-narrow l i = ap (λ (p : ℕ). getD l p 0 + 2 ^ 64 * 0) (mul-one i) ∙ add-zero (getD l i 0)
+
+-- so that any two buffers tell
+pub narrow-telling : (l m : List ℕ) → Telling narrow l m
+narrow-telling l m i p h e =
+    let here : i * 1 + p ≡ i = omega (arith, mul-one i) in
+    let same = decode-same narrow (placed narrow l i) (placed narrow m i) e in
+    ap (λ (j : ℕ). getD l j 0) here ∙ sym (placed-narrow l i) ∙ same ∙ placed-narrow m i ∙ sym (ap (λ (j : ℕ). getD m j 0) here)
+
 module _ (s : Counted) where
   -- a slot and queue have one value
-  one-value : (t : ℕ) (w : Queue) (r q : Option ℕ) → IsValueAt s t w r → IsValueAt s t w q → r ≡ q
+  pub one-value : (t : ℕ) (w : Queue) (r q : Option ℕ) → IsValueAt s t w r → IsValueAt s t w q → r ≡ q
   one-value t w r q = value-unique (processOf s) (s .jobCount) (weightAt s) (s .horizon - t) w r q
 
   -- and one plan byte
@@ -56,12 +71,10 @@ module _ (s : Counted) where
   one-byte t w none byte other d e = d ∙ sym e
   one-byte t w (some v) byte other d e = first-unique (processOf s) (s .jobCount) (weightAt s) d e
 
-  -- both places of a slot and queue
-  pub decided-same : (t i : ℕ) {r q : Option ℕ} {byte other : ℕ} → Decided s t i r byte → Decided s t i q other → (r ≡ q) × (byte ≡ other)
-  decided-same t i {byte = byte} {other = other} d e =
-      let same = one-value t (queueAt s i) (d .r) (e .r) (d .is-value) (e .is-value) in
-      let plan = subst (λ (r : Option ℕ). IsPlanByte s t (queueAt s i) r byte) same (d .in-plan) in
-      (d .in-values ∙ same ∙ sym (e .in-values), one-byte t (queueAt s i) (e .r) byte other plan (e .in-plan))
+  -- whatever values a plan byte is right by, there is one
+  pub plan-byte-same : (t : ℕ) (w : Queue) (byte other : ℕ) → IsPlanByteAt s t w byte → IsPlanByteAt s t w other → byte ≡ other
+  plan-byte-same t w byte other (r, is, d) (q, also, e) =
+      one-byte t w q byte other (subst (λ (v : Option ℕ). IsPlanByte s t w v byte) (one-value t w r q is also) d) e
 
   -- the answer
   pub answer-same : (a b : PlanAnswer) → a .queues ≡ b .queues → FromEmpty s a → FromEmpty s b → a ≡ b
@@ -71,67 +84,70 @@ module _ (s : Counted) where
       let least = d .least ∙ ap (λ (r : Option ℕ). Option·getD r 0) same ∙ sym (e .least) in
       λ i. record { number = number i; queues = queues i; least = least i }
 
--- a place is that of a slot and a queue
-slot-and-queue : (n rows j : ℕ) → 0 < n → j < rows * n → (j / n < rows) × (j % n < n) × (j / n * n + j % n ≡ j)
-slot-and-queue n rows j h l = (div-lt-iff-lt-mul h .1 l, mod-lt j h, div-add-mod' j n)
+-- a place of rows of n is that of a row, and a place in it
+row-and-place : (n rows j : ℕ) → j < rows * n → (j / n < rows) × (j % n < n) × (j / n * n + j % n ≡ j)
+row-and-place n rows j l = (div-lt-iff-lt-mul some .1 l, mod-lt j some, div-add-mod' j n)
+  where
+    some : 0 < n
+    some = go n l
+      where
+        go : (n : ℕ) → j < rows * n → 0 < n
+        go zero h = omega (arith, mul-zero rows)
+        go (suc n) h = omega arith
 
-module _ (s : Counted) (some-queue : 0 < N s) (values₀ plan₀ : List ℕ) where
-  -- the plan bytes of two results
-  plans-same : (values plan values′ plan′ : List ℕ) (a b : PlanAnswer) →
-      Filled valueIn s values₀ plan₀ values plan a → Filled valueIn s values₀ plan₀ values′ plan′ b → plan ≡ plan′
-  plans-same values plan values′ plan′ a b f g =
-      parts-same plan plan′ (planNeeded s) (f .plan-length ∙ sym (g .plan-length)) at-place (f .plan-beyond ∙ sym (g .plan-beyond))
+module _ (s : Counted) where
+  -- the plans of two results, whatever their values
+  pub plans-same : (r q : ℕ → ℕ → Option ℕ) (plan₀ plan plan′ : List ℕ) → AreValues s r → AreValues s q → PlanFilled s r plan₀ plan →
+      PlanFilled s q plan₀ plan′ → plan ≡ plan′
+  plans-same r q plan₀ plan plan′ is also f g =
+      parts-same plan plan′ (planNeeded s) (f .same-length ∙ sym (g .same-length)) at-place (f .beyond ∙ sym (g .beyond))
     where
       at-place : (j : ℕ) → j < planNeeded s → getD plan j 0 ≡ getD plan′ j 0
       at-place j h =
-          let p = slot-and-queue (N s) (s .horizon) j some-queue h in
+          let p = row-and-place (N s) (s .horizon) j h in
           let t = j / N s in
           let i = j % N s in
           subst (λ (k : ℕ). getD plan k 0 ≡ getD plan′ k 0) (p .2)
-          (decided-same s t i (f .rows t i (p .0) (p .1)) (g .rows t i (p .0) (p .1)) .1)
+          (plan-byte-same s t (queueAt s i) _ _ (r t i, is t i (le-of-lt (p .0)) (p .1), f .bytes t i (p .0) (p .1))
+          (q t i, also t i (le-of-lt (p .0)) (p .1), g .bytes t i (p .0) (p .1)))
 
   -- the values of two results
-  values-same : (values plan values′ plan′ : List ℕ) (a b : PlanAnswer) →
-      Filled valueIn s values₀ plan₀ values plan a → Filled valueIn s values₀ plan₀ values′ plan′ b → values ≡ values′
-  values-same values plan values′ plan′ a b f g =
-      parts-same values values′ (valuesNeeded s) (f .values-length ∙ sym (g .values-length)) at-place (f .values-beyond ∙ sym (g .values-beyond))
+  values-same : (width : Width) (r q : ℕ → ℕ → Option ℕ) (values₀ values values′ : List ℕ) → Telling width values values′ → AreValues s r →
+      AreValues s q → ValuesFilled width s r values₀ values → ValuesFilled width s q values₀ values′ → values ≡ values′
+  values-same width r q values₀ values values′ tells is also f g =
+      parts-same values values′ (valuePlaces width s) (f .same-length ∙ sym (g .same-length)) at-place (f .beyond ∙ sym (g .beyond))
     where
-      in-row : (t i : ℕ) → t < suc (s .horizon) → i < N s → valueIn values (placeAt s t i) ≡ valueIn values′ (placeAt s t i)
-      in-row t i h k =
-          ⊎-elim
-          (λ e. subst (λ (u : ℕ). valueIn values (placeAt s u i) ≡ valueIn values′ (placeAt s u i)) (sym e)
-          (one-value s (s .horizon) (queueAt s i) _ _ (f .end-row i k) (g .end-row i k)))
-          (λ l. decided-same s t i (f .rows t i l k) (g .rows t i l k) .0)
-          (eq-or-lt-of-le (le-of-suc-le-suc h))
+      one : (t i : ℕ) → t ≤ s .horizon → i < N s → valueIn width values (placeAt s t i) ≡ valueIn width values′ (placeAt s t i)
+      one t i h l =
+          f .each t i h l ∙ one-value s t (queueAt s i) (r t i) (q t i) (is t i h l) (also t i h l) ∙ sym (g .each t i h l)
 
-      at-place : (j : ℕ) → j < valuesNeeded s → getD values j 0 ≡ getD values′ j 0
+      at-value : (j : ℕ) → j < valuesNeeded s → valueIn width values j ≡ valueIn width values′ j
+      at-value j h =
+          let p = row-and-place (N s) (suc (s .horizon)) j h in
+          subst (λ (k : ℕ). valueIn width values k ≡ valueIn width values′ k) (p .2)
+          (one (j / N s) (j % N s) (le-of-suc-le-suc (p .0)) (p .1))
+
+      at-place : (j : ℕ) → j < valuePlaces width s → getD values j 0 ≡ getD values′ j 0
       at-place j h =
-          let p = slot-and-queue (N s) (suc (s .horizon)) j some-queue h in
+          let p = row-and-place (width .places) (valuesNeeded s) j h in
           subst (λ (k : ℕ). getD values k 0 ≡ getD values′ k 0) (p .2)
-          (decoded-same (getD values (placeAt s (j / N s) (j % N s)) 0) (getD values′ (placeAt s (j / N s) (j % N s)) 0)
-          (in-row (j / N s) (j % N s) (p .0) (p .1)))
-
--- a sheet that is planned has a queue
-planned-queue : (s : Counted) (valuesRoom planRoom : ℕ) → planRefusal s valuesRoom planRoom ≡ 0 → 0 < N s
-unfolding planLines
-planned-queue s valuesRoom planRoom e = omega (arith, N-low s (accepted s (then-left (sheetRefusal s) _ e) .ranged))
+          (tells (j / width .places) (j % width .places) (p .1) (at-value (j / width .places) (p .0)))
 
 -- two results for the same sheet and the same lent memory are equal
-pub leaves-unique : (s : Counted) (values₀ plan₀ values plan values′ plan′ : List ℕ) (a b : PlanAnswer) →
-    Leaves valueIn s values₀ plan₀ values plan a → Leaves valueIn s values₀ plan₀ values′ plan′ b →
+pub leaves-unique : (width : Width) (s : Counted) (values₀ plan₀ values plan values′ plan′ : List ℕ) (a b : PlanAnswer) →
+    Telling width values values′ → Leaves width s values₀ plan₀ values plan a → Leaves width s values₀ plan₀ values′ plan′ b →
     (values ≡ values′) × (plan ≡ plan′) × (a ≡ b)
-leaves-unique s values₀ plan₀ values plan values′ plan′ a b = go (planRefusal s (length values₀) (length plan₀)) refl
+leaves-unique width s values₀ plan₀ values plan values′ plan′ a b tells = go (planRefusal width s (length values₀) (length plan₀))
   where
-    go : (number : ℕ) → planRefusal s (length values₀) (length plan₀) ≡ number →
-        LeavesBy number valueIn s values₀ plan₀ values plan a → LeavesBy number valueIn s values₀ plan₀ values′ plan′ b →
+    go : (number : ℕ) → LeavesBy number width s values₀ plan₀ values plan a → LeavesBy number width s values₀ plan₀ values′ plan′ b →
         (values ≡ values′) × (plan ≡ plan′) × (a ≡ b)
-    go zero e f g = (
-      values-same s (planned-queue s (length values₀) (length plan₀) e) values₀ plan₀ values plan values′ plan′ a b f g,
-      plans-same s (planned-queue s (length values₀) (length plan₀) e) values₀ plan₀ values plan values′ plan′ a b f g,
+    go zero f g = (
+      values-same s width (f .r) (g .r) values₀ values values′ tells (f .are-values) (g .are-values) (f .in-values) (g .in-values),
+      plans-same s (f .r) (g .r) plan₀ plan plan′ (f .are-values) (g .are-values) (f .in-plan) (g .in-plan),
       answer-same s a b (f .queues ∙ sym (g .queues)) (f .empty) (g .empty),
     )
-    go (suc number) e f g = (
-      f .values-kept ∙ sym (g .values-kept),
-      f .plan-kept ∙ sym (g .plan-kept),
+    go (suc number) f g = (
+      f .values-same ∙ sym (g .values-same),
+      f .plan-same ∙ sym (g .plan-same),
       f .answer ∙ sym (g .answer),
     )

@@ -14,7 +14,7 @@ use Rattle.process.proofs.Sums.{sum-more, sum-upto}
 use Rattle.model.specs.Counted.{Counted, speedAt, energyAt, weightAt, sizeAt, deadlineAt, speedsOf, W, M, greatestEnergy, G}
 use Rattle.model.specs.Queue.{queueCount}
 pub use Rattle.model.specs.Refusal.{Ranged, Accepted}
-use Rattle.model.specs.Refusal.{boundRight, speedCountRight, speedRight, energyRight, horizonRight, jobCountRight, weightRight, sizeRight, deadlineRight, speedsRefusal, speedsLines, jobsRefusal, jobsLines, fieldsRefusal, fieldLines, limitLines, linesGiven, sheetRefusal, sheetLines, valueLimit, N}
+use Rattle.model.specs.Refusal.{boundRight, speedCountRight, speedRight, energyRight, horizonRight, jobCountRight, weightRight, sizeRight, deadlineRight, speedsRefusal, speedsLines, jobsRefusal, jobsLines, fieldsRefusal, fieldLines, limitLines, linesGiven, sheetRefusal, sheetLines, N}
 use Rattle.model.specs.Tests.{check, _then_, within}
 use Rattle.model.proofs.Queues.{at-least-two}
 use Rattle.model.proofs.Counted.{climbs-rise, on-sheet-at, speed-upto}
@@ -86,18 +86,18 @@ ranged s e =
     }
 
 -- a sheet whose number is 0 has passed 4 to 8
-pub fields-right : (s : Counted) → sheetRefusal s ≡ 0 → fieldsRefusal s ≡ 0
+pub fields-right : (limit : ℕ) (s : Counted) → sheetRefusal limit s ≡ 0 → fieldsRefusal s ≡ 0
 unfolding sheetLines linesGiven
-fields-right s e = then-left (fieldsRefusal s) _ e
+fields-right limit s e = then-left (fieldsRefusal s) _ e
 
 -- a sheet whose number is 0 keeps every range and both limits
-pub accepted : (s : Counted) → sheetRefusal s ≡ 0 → Accepted s
+pub accepted : (s : Counted) {limit : ℕ} → sheetRefusal limit s ≡ 0 → Accepted limit s
 unfolding sheetLines linesGiven limitLines
-accepted s e =
-    let value = passed (leb (s .horizon * G s * W s ^ s .horizon) valueLimit) 8 _ (then-right (fieldsRefusal s) _ e) in
+accepted s {limit = limit} e =
+    let value = passed (leb (s .horizon * G s * W s ^ s .horizon) limit) 8 _ (then-right (fieldsRefusal s) _ e) in
     record {
-      ranged = ranged s (fields-right s e);
-      fits = leb→le (s .horizon * G s * W s ^ s .horizon) valueLimit (value .0);
+      ranged = ranged s (fields-right limit s e);
+      fits = leb→le (s .horizon * G s * W s ^ s .horizon) limit (value .0);
       queues-high = leb→le (N s) 65535 (check-zero (leb (N s) 65535) 9 (value .1));
     }
 
@@ -175,7 +175,7 @@ unfolding W sum
 W-low s r = omega (arith, r .weight-low 0 (r .jobs-low), sum-more (weightAt s) 1 (s .jobCount) (r .jobs-low))
 
 -- no power of W up to T passes number 9's limit: T and G are 1 at least
-pub power-fits : (s : Counted) → Accepted s → (k : ℕ) → k ≤ s .horizon → W s ^ k ≤ valueLimit
+pub power-fits : (s : Counted) {limit : ℕ} → Accepted limit s → (k : ℕ) → k ≤ s .horizon → W s ^ k ≤ limit
 power-fits s a k h =
     let factor : 1 ≤ s .horizon * G s = mul-le-mul (a .ranged .horizon-low) (G-low s) in
     omega (arith, pow-le-pow-right (W-low s (a .ranged)) h, mul-le-mul-right (W s ^ s .horizon) factor, a .fits)

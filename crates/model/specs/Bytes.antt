@@ -6,7 +6,7 @@ use mathlib.Core.List.{List, [], _∷_, _++_}
 use lib.Dec.{leb, ltb, eqb}
 use lib.ListN.{length, getD, drop}
 use Rattle.model.specs.Counted.{Counted, WellCounted, zeroSpeed, zeroJob}
-use Rattle.model.specs.Refusal.{sheetLines, sheetRefusal}
+use Rattle.model.specs.Refusal.{sheetLines, sheetRefusal, valueLimit}
 use Rattle.model.specs.Tests.{Lines, line, _⨾_, firstOf, inTurn}
 use Rattle.model.specs.declared.Job.{Job}
 use Rattle.model.specs.declared.Speed.{Speed}
@@ -53,12 +53,12 @@ sheetBytes s =
 -- the bytes are the sheet's, and it is an accepted one with as many places as its counts say
 pub record BytesOf (bytes : List ℕ) (s : Counted) : Type 0 where
   pub bytes-are : bytes ≡ sheetBytes s
-  pub is-accepted : sheetRefusal s ≡ 0
+  pub is-accepted : sheetRefusal valueLimit s ≡ 0
   pub well-counted : WellCounted s
 
 -- "Planner, writer and row: 4 to 10, 11"; "11: a lent buffer shorter than needed", whose length is `room`
 unfoldable pub writeLines : Counted → ℕ → Lines
-writeLines s room = sheetLines s ⨾ line 11 (leb (length (sheetBytes s)) room)
+writeLines s room = sheetLines valueLimit s ⨾ line 11 (leb (length (sheetBytes s)) room)
 
 abbrev pub writeRefusal : Counted → ℕ → ℕ
 writeRefusal s room = firstOf (writeLines s room)

@@ -9,11 +9,12 @@ use lib.ListN.{length, getD, take, replicate, set}
 use Rattle.model.specs.Bytes.{code, sheetBytes, write}
 use Rattle.model.specs.Counted.{Counted, counted, sheetOf}
 use Rattle.model.specs.Listing.{text, decimal, listing, refusedLine, list}
-use Rattle.model.specs.Plan.{IsValueAt, IsCostAt, IsPlanByte, PlanAnswer, Decided, FromEmpty, valueIn, admissible, planRefusal, row}
+use Rattle.model.specs.Plan.{IsValueAt, IsCostAt, IsPlanByte, PlanAnswer, FromEmpty, admissible, planRefusal, queueAt, row}
 use Rattle.model.specs.Queue.{Queue, emptyQueue, placesOf, run, arrive, queueCount, numberOf, bearable}
 use Rattle.model.specs.Reading.{Answer, value, refused, field, read}
-use Rattle.model.specs.Refusal.{sheetRefusal, N}
+use Rattle.model.specs.Refusal.{sheetRefusal, N, valueLimit}
 use Rattle.model.specs.Stepper.{State, Stepped, Told, start, speed, advance}
+use Rattle.model.specs.Width.{narrow, valueIn}
 use Rattle.model.specs.declared.Job.{Job}
 use Rattle.model.specs.declared.Sheet.{Sheet}
 use Rattle.model.specs.declared.Speed.{Speed}
@@ -48,12 +49,14 @@ pub data Case : Type 0 where
 
 abbrev pub Holds : Case → Type 0
 Holds (planned s t values plan) =
-    (length values ≡ N s) × (length plan ≡ N s) × ((i : ℕ) → i < N s → Decided s t i (valueIn values i) (getD plan i 0))
+    (length values ≡ N s) × (length plan ≡ N s) ×
+    ((i : ℕ) → i < N s → IsValueAt s t (queueAt s i) (valueIn narrow values i) ×
+    IsPlanByte s t (queueAt s i) (valueIn narrow values i) (getD plan i 0))
 Holds (valued s t w r) = IsValueAt s t w r
 Holds (decides s t w r byte) = IsValueAt s t w r × IsPlanByte s t w r byte
 Holds (answers s number queues least) = FromEmpty s (record { number = number; queues = queues; least = least }) × (N s ≡ queues)
 Holds (costs s t w speed v) = IsCostAt s t w speed v
-Holds (refuses s number) = sheetRefusal s ≡ number
+Holds (refuses s number) = sheetRefusal valueLimit s ≡ number
 Holds (reads bytes number memory) = (read bytes .number ≡ number) × (read bytes .sheet ≡ memory)
 Holds (views memory s) = counted memory ≡ s
 Holds (counts M D n) = queueCount M D ≡ n
@@ -268,10 +271,10 @@ casesOfPlans =
     -- a tie goes to the slower speed
     decides (sheetOf 1 (at 0 7 ∷ at 1 7 ∷ []) 1 (job 1 0 1 ∷ [])) 0 (emptyQueue 1) (some 7) 0 ∷
     -- "values, (T+1) times N places ..; and the plan, T times N bytes"
-    numbers (planRefusal A 36 24) 0 ∷
-    numbers (planRefusal A 35 24) 11 ∷
-    numbers (planRefusal A 36 23) 11 ∷
-    numbers (planRefusal crowded 0 0) 5 ∷
+    numbers (planRefusal narrow A 36 24) 0 ∷
+    numbers (planRefusal narrow A 35 24) 11 ∷
+    numbers (planRefusal narrow A 36 23) 11 ∷
+    numbers (planRefusal narrow crowded 0 0) 5 ∷
     -- the row of a slot, and the empty part
     lists (row A planA 0) A0 ∷
     lists (row A planA 1) A1 ∷

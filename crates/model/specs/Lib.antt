@@ -4,6 +4,7 @@ pub mod Queue
 pub mod Refusal
 pub mod Bytes
 pub mod Reading
+pub mod Width
 pub mod Plan
 pub mod Listing
 pub mod Stepper

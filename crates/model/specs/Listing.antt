@@ -9,8 +9,8 @@ use lib.Dec.{leb, ltb}
 use lib.ListN.{length, getD}
 use Rattle.model.specs.Bytes.{Written, written}
 use Rattle.model.specs.Counted.{Counted, W}
-use Rattle.model.specs.Plan.{placeAt, planNeeded}
-use Rattle.model.specs.Refusal.{sheetLines, N}
+use Rattle.model.specs.Plan.{byteAt, planNeeded}
+use Rattle.model.specs.Refusal.{sheetLines, N, valueLimit}
 use Rattle.model.specs.Tests.{Lines, line, _⨾_, firstOf, inTurn}
 
 -- a text's characters, each by its code
@@ -60,7 +60,7 @@ lineOf slot byteAt queues = decimal slot ++ (text ":" ++ (bytesListed byteAt que
 
 -- the line of slot t
 abbrev pub lineOfSlot : Counted → List ℕ → ℕ → List ℕ
-lineOfSlot s plan t = lineOf t (λ i. getD plan (placeAt s t i) 0) (N s)
+lineOfSlot s plan t = lineOf t (byteAt s plan t) (N s)
 
 -- the listing of a sheet whose plan these bytes are, and whose empty queue has the value `least` at slot 0
 unfoldable pub listing : Counted → (least : ℕ) → (plan : List ℕ) → List ℕ
@@ -72,7 +72,7 @@ refusedLine number = text "refused " ++ (decimal number ++ text "\n")
 
 -- 4 to 10, then "11: a lent buffer shorter than needed": the plan, T times N bytes, or the buffer for the listing, of length `room`
 unfoldable pub listLines : Counted → (least : ℕ) → (plan : List ℕ) → (room : ℕ) → Lines
-listLines s least plan room = sheetLines s ⨾ line 11 (leb (planNeeded s) (length plan) && leb (length (listing s least plan)) room)
+listLines s least plan room = sheetLines valueLimit s ⨾ line 11 (leb (planNeeded s) (length plan) && leb (length (listing s least plan)) room)
 
 abbrev pub listRefusal : Counted → (least : ℕ) → (plan : List ℕ) → (room : ℕ) → ℕ
 listRefusal s least plan room = firstOf (listLines s least plan room)

@@ -1,6 +1,6 @@
 -- Document 01, "Energy and plans": the process of a sheet, what the value and the plan's speed of a slot and queue are, and what the
 -- planner and the row call answer. All of it is said of ways (process/specs/Ways.antt); no induction is mentioned.
-use Prim.Native.Nat.{ℕ, zero, suc, _+_, _*_, _-_, _^_, _<_}
+use Prim.Native.Nat.{ℕ, zero, suc, _+_, _*_, _-_, _≤_, _<_}
 use mathlib.Core.Path.{_≡_}
 use mathlib.Core.Bool.{Bool, cond, _&&_}
 use mathlib.Core.List.{List, [], _∷_}
@@ -10,7 +10,8 @@ use lib.ListN.{length, getD, take, drop}
 use Rattle.process.specs.Ways.{Process, Way, later, IsValue, IsCost, IsFirst}
 use Rattle.model.specs.Counted.{Counted, sizeAt, deadlineAt, weightAt, speedsOf, onSheet, energyOf, M}
 use Rattle.model.specs.Queue.{Queue, total, emptyQueue, bearable, oneSlot, bearableQueues, numberOf}
-use Rattle.model.specs.Refusal.{sheetLines, N}
+use Rattle.model.specs.Refusal.{sheetLines, N, valueLimit}
+use Rattle.model.specs.Width.{Width, valueIn}
 use Rattle.model.specs.Tests.{Lines, line, _⨾_, firstOf, everywhere}
 
 -- the queue after one slot at a speed and then the arrival of the entry at place i
@@ -54,32 +55,24 @@ HasValue s t w = (v : ℕ) × IsValueAt s t w (some v)
 abbrev pub IsCostAt : Counted → ℕ → Queue → ℕ → ℕ → Type 0
 IsCostAt s t w speed v = IsCost (processOf s) (s .jobCount) (weightAt s) (s .horizon - t) w speed v
 
--- "none is written 2^64-1 in the values and 255 in the plan"
-
-abbrev pub noValue : ℕ
-noValue = 2 ^ 64 - 1
-
+-- "none is written .. 255 in the plan"; how it is written in the values is said in Width.antt
 abbrev pub noSpeed : ℕ
 noSpeed = 255
-
--- what a place of the values says
-abbrev pub decoded : ℕ → Option ℕ
-decoded x = cond (eqb x noValue) none (some x)
-
--- the value at a place of the lent values
-abbrev pub valueIn : List ℕ → ℕ → Option ℕ
-valueIn values place = decoded (getD values place 0)
 
 -- "The plan speed is the smallest first speed of a least good way": the plan byte of slot t and queue w, whose value is r
 abbrev pub IsPlanByte : Counted → ℕ → Queue → Option ℕ → ℕ → Type 0
 IsPlanByte s t w none byte = byte ≡ noSpeed
 IsPlanByte s t w (some v) byte = IsFirst (processOf s) (s .jobCount) (weightAt s) (s .horizon - t) w byte
 
+-- the same of whatever value they have
+abbrev pub IsPlanByteAt : Counted → ℕ → Queue → ℕ → Type 0
+IsPlanByteAt s t w byte = (r : Option ℕ) × IsValueAt s t w r × IsPlanByte s t w r byte
+
 -- the bearable queue with number i
 abbrev pub queueAt : Counted → ℕ → Queue
 queueAt s i = getD (bearableQueues (M s) (s .bound)) i []
 
--- "row t from place t times N"
+-- where values and plan bytes stand: "row t from place t times N", and in it one for each queue, in the order of their numbers
 abbrev pub placeAt : Counted → ℕ → ℕ → ℕ
 placeAt s t i = t * N s + i
 
@@ -87,20 +80,34 @@ placeAt s t i = t * N s + i
 abbrev pub placeOfQueue : Counted → ℕ → Queue → ℕ
 placeOfQueue s t w = placeAt s t (numberOf (M s) w)
 
--- how many places are lent: "values, (T+1) times N places of 64 bits ..; and the plan, T times N bytes"
+-- the plan byte of a slot and the bearable queue with number i
+abbrev pub byteAt : Counted → List ℕ → ℕ → ℕ → ℕ
+byteAt s plan t i = getD plan (placeAt s t i) 0
+
+-- the same of a bearable queue
+abbrev pub byteOfQueue : Counted → List ℕ → ℕ → Queue → ℕ
+byteOfQueue s plan t w = byteAt s plan t (numberOf (M s) w)
+
+-- how much is lent: "values, (T+1) times N places of 64 bits ..; and the plan, T times N bytes". A value takes as many places as its width
+-- says: one in 01
 
 abbrev pub valuesNeeded : Counted → ℕ
 valuesNeeded s = suc (s .horizon) * N s
 
+abbrev pub valuePlaces : Width → Counted → ℕ
+valuePlaces width s = valuesNeeded s * width .places
+
 abbrev pub planNeeded : Counted → ℕ
 planNeeded s = s .horizon * N s
 
--- "Planner, writer and row: 4 to 10, 11"; "11: a lent buffer shorter than needed", whose lengths are the rooms
-unfoldable pub planLines : Counted → (valuesRoom planRoom : ℕ) → Lines
-planLines s valuesRoom planRoom = sheetLines s ⨾ line 11 (leb (valuesNeeded s) valuesRoom && leb (planNeeded s) planRoom)
+-- "Planner, writer and row: 4 to 10, 11"; "11: a lent buffer shorter than needed", whose lengths are the rooms. 9 tests the limit of the
+-- width that the values have
+unfoldable pub planLines : Width → Counted → (valuesRoom planRoom : ℕ) → Lines
+planLines width s valuesRoom planRoom =
+    sheetLines (width .limit) s ⨾ line 11 (leb (valuePlaces width s) valuesRoom && leb (planNeeded s) planRoom)
 
-abbrev pub planRefusal : Counted → ℕ → ℕ → ℕ
-planRefusal s valuesRoom planRoom = firstOf (planLines s valuesRoom planRoom)
+abbrev pub planRefusal : Width → Counted → ℕ → ℕ → ℕ
+planRefusal width s valuesRoom planRoom = firstOf (planLines width s valuesRoom planRoom)
 
 -- "12: planned, but the empty queue at slot 0 has none"
 abbrev pub number12 : Option ℕ → ℕ
@@ -113,13 +120,6 @@ pub record PlanAnswer : Type 0 where
   pub queues : ℕ
   pub least : ℕ
 
--- one slot and queue: one r decides both places
-pub record Decided (s : Counted) (t i : ℕ) (atValue : Option ℕ) (byte : ℕ) : Type 0 where
-  pub r : Option ℕ
-  pub is-value : IsValueAt s t (queueAt s i) r
-  pub in-values : atValue ≡ r
-  pub in-plan : IsPlanByte s t (queueAt s i) r byte
-
 -- the number and the least energy: one r, the empty queue's at slot 0, decides both
 pub record FromEmpty (s : Counted) (a : PlanAnswer) : Type 0 where
   pub r : Option ℕ
@@ -127,40 +127,51 @@ pub record FromEmpty (s : Counted) (a : PlanAnswer) : Type 0 where
   pub number : a .number ≡ number12 r
   pub least : a .least ≡ Option·getD r 0
 
--- the lent places after a plan that is not refused. `read` is how a value stands in the values. Slots are "numbered 0 to T-1": t is below
--- the horizon
-pub record Filled (read : List ℕ → ℕ → Option ℕ) (s : Counted) (values₀ plan₀ values plan : List ℕ) (a : PlanAnswer) : Type 0 where
-  pub rows : (t i : ℕ) → t < s .horizon → i < N s → Decided s t i (read values (placeAt s t i)) (getD plan (placeAt s t i) 0)
-  -- row T
-  pub end-row : (i : ℕ) → i < N s → IsValueAt s (s .horizon) (queueAt s i) (read values (placeAt s (s .horizon) i))
-  -- "Places beyond are untouched"
-  pub values-length : length values ≡ length values₀
-  pub plan-length : length plan ≡ length plan₀
-  pub values-beyond : drop (valuesNeeded s) values ≡ drop (valuesNeeded s) values₀
-  pub plan-beyond : drop (planNeeded s) plan ≡ drop (planNeeded s) plan₀
+-- the values of a whole plan: r t i is that of slot t and the bearable queue with number i. Slots are "numbered 0 to T-1"; row T is the end
+abbrev pub AreValues : Counted → (ℕ → ℕ → Option ℕ) → Type 0
+AreValues s r = (t i : ℕ) → t ≤ s .horizon → i < N s → IsValueAt s t (queueAt s i) (r t i)
+
+-- what is promised of the plan, where r are the values: a byte for each slot and queue; "Places beyond are untouched"
+pub record PlanFilled (s : Counted) (r : ℕ → ℕ → Option ℕ) (plan₀ plan : List ℕ) : Type 0 where
+  pub bytes : (t i : ℕ) → t < s .horizon → i < N s → IsPlanByte s t (queueAt s i) (r t i) (byteAt s plan t i)
+  pub same-length : length plan ≡ length plan₀
+  pub beyond : drop (planNeeded s) plan ≡ drop (planNeeded s) plan₀
+
+-- what is promised of the values, of this width: each stands in its row, row T too; places beyond are untouched
+pub record ValuesFilled (width : Width) (s : Counted) (r : ℕ → ℕ → Option ℕ) (values₀ values : List ℕ) : Type 0 where
+  pub each : (t i : ℕ) → t ≤ s .horizon → i < N s → valueIn width values (placeAt s t i) ≡ r t i
+  pub same-length : length values ≡ length values₀
+  pub beyond : drop (valuePlaces width s) values ≡ drop (valuePlaces width s) values₀
+
+-- the lent places after a plan that is not refused, and its answer: one r decides both places of a slot and queue
+pub record Filled (width : Width) (s : Counted) (values₀ plan₀ values plan : List ℕ) (a : PlanAnswer) : Type 0 where
+  pub r : ℕ → ℕ → Option ℕ
+  pub are-values : AreValues s r
+  pub in-plan : PlanFilled s r plan₀ plan
+  pub in-values : ValuesFilled width s r values₀ values
   -- N, and the empty queue's least energy at slot 0; 12 "fills both buffers and reports N, least energy 0"
   pub queues : a .queues ≡ N s
   pub empty : FromEmpty s a
 
 -- "A refused .. plan touches no lent place and reports zero for .. N and least energy"
 pub record Untouched (number : ℕ) (values₀ plan₀ values plan : List ℕ) (a : PlanAnswer) : Type 0 where
-  pub values-kept : values ≡ values₀
-  pub plan-kept : plan ≡ plan₀
+  pub values-same : values ≡ values₀
+  pub plan-same : plan ≡ plan₀
   pub answer : a ≡ record { number = number; queues = 0; least = 0 }
 
-abbrev pub LeavesBy : ℕ → (List ℕ → ℕ → Option ℕ) → Counted → (values₀ plan₀ values plan : List ℕ) → PlanAnswer → Type 0
-LeavesBy zero read s values₀ plan₀ values plan a = Filled read s values₀ plan₀ values plan a
-LeavesBy (suc number) read s values₀ plan₀ values plan a = Untouched (suc number) values₀ plan₀ values plan a
+abbrev pub LeavesBy : ℕ → Width → Counted → (values₀ plan₀ values plan : List ℕ) → PlanAnswer → Type 0
+LeavesBy zero width s values₀ plan₀ values plan a = Filled width s values₀ plan₀ values plan a
+LeavesBy (suc number) width s values₀ plan₀ values plan a = Untouched (suc number) values₀ plan₀ values plan a
 
--- what the planner leaves in the lent values and plan, and what it answers
-abbrev pub Leaves : (List ℕ → ℕ → Option ℕ) → Counted → (values₀ plan₀ values plan : List ℕ) → PlanAnswer → Type 0
-Leaves read s values₀ plan₀ values plan a =
-    LeavesBy (planRefusal s (length values₀) (length plan₀)) read s values₀ plan₀ values plan a
+-- what the planner leaves in the lent values, of this width, and in the plan, and what it answers
+abbrev pub Leaves : Width → Counted → (values₀ plan₀ values plan : List ℕ) → PlanAnswer → Type 0
+Leaves width s values₀ plan₀ values plan a =
+    LeavesBy (planRefusal width s (length values₀) (length plan₀)) width s values₀ plan₀ values plan a
 
 -- "A row call answers the part of the caller's plan that belongs to slot t, and an empty part on any refusal or when t is not below T"
 
 unfoldable pub rowLines : Counted → ℕ → Lines
-rowLines s room = sheetLines s ⨾ line 11 (leb (planNeeded s) room)
+rowLines s room = sheetLines valueLimit s ⨾ line 11 (leb (planNeeded s) room)
 
 abbrev pub rowRefusal : Counted → ℕ → ℕ
 rowRefusal s room = firstOf (rowLines s room)

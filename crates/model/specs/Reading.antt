@@ -6,7 +6,7 @@ use mathlib.Core.List.{List, [], _∷_}
 use lib.Dec.{leb, ltb, eqb}
 use lib.ListN.{length, getD}
 use Rattle.model.specs.Counted.{Counted, sheetOf, inMemory, zeroSheet}
-use Rattle.model.specs.Refusal.{boundRight, speedCountRight, speedRight, energyRight, horizonRight, jobCountRight, weightRight, sizeRight, deadlineRight, limitsRefusal, N}
+use Rattle.model.specs.Refusal.{boundRight, speedCountRight, speedRight, energyRight, horizonRight, jobCountRight, weightRight, sizeRight, deadlineRight, limitsRefusal, N, valueLimit}
 use Rattle.model.specs.declared.Job.{Job}
 use Rattle.model.specs.declared.Sheet.{Sheet}
 use Rattle.model.specs.declared.Speed.{Speed}
@@ -122,7 +122,7 @@ ended bytes at = test (leb (length bytes) at) 3 bytes at
 -- 9 and 10 of what was read; `queues` is N of a sheet, handed in as in `refusalGiven`
 unfoldable pub judged : (Counted → ℕ) → Counted → Reader Counted
 judged queues s = do
-  refuse (limitsRefusal (queues s) s)
+  refuse (limitsRefusal valueLimit (queues s) s)
   done s
 
 -- the fields in order, and then 3, 9, 10

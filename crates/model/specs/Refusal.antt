@@ -105,11 +105,11 @@ fieldLines reading s =
     line 8 (jobCountRight (s .jobCount)) ⨾
     jobsLines reading s (s .jobCount)
 
--- "9: T times G times W to the power T exceeds 2^63-1". 01's factor is T; it and the limit are parameters, since later requests change them
+-- "9: T times G times W to the power T exceeds 2^63-1". 01's factor is T and its limit `valueLimit`; both are parameters
 abbrev pub valueFits : ℕ → ℕ → Counted → Bool
 valueFits factor limit s = leb (factor * G s * W s ^ s .horizon) limit
 
--- "2^63-1", of number 9: no value passes it
+-- "2^63-1", the limit of number 9 in 01: no value passes it
 abbrev pub valueLimit : ℕ
 valueLimit = 2 ^ 63 - 1
 
@@ -121,18 +121,18 @@ queuesFit queues = leb queues 65535
 unfoldable pub N : Counted → ℕ
 N s = queueCount (M s) (s .bound)
 
--- 9 and 10, of the sheet as a whole. Its N is handed in as `queues`, so that the cases can be computed with 01's recurrence, which is
--- proved equal; `sheetLines` hands in N itself
-unfoldable pub limitLines : ℕ → Counted → Lines
-limitLines queues s = line 9 (valueFits (s .horizon) valueLimit s) ⨾ line 10 (queuesFit queues)
+-- 9, of a limit, and 10, of the sheet as a whole. Its N is handed in as `queues`, so that the cases can be computed with 01's recurrence,
+-- which is proved equal; `sheetLines` hands in N itself
+unfoldable pub limitLines : (limit queues : ℕ) → Counted → Lines
+limitLines limit queues s = line 9 (valueFits (s .horizon) limit s) ⨾ line 10 (queuesFit queues)
 
 -- 4 to 10 in field order, where the sheet's N is `queues`
-unfoldable pub linesGiven : ℕ → Counted → Lines
-linesGiven queues s = fieldLines nothingRead s ⨾ limitLines queues s
+unfoldable pub linesGiven : (limit queues : ℕ) → Counted → Lines
+linesGiven limit queues s = fieldLines nothingRead s ⨾ limitLines limit queues s
 
--- "A sheet in memory is tested 4 to 10 in that field order by every call"
-unfoldable pub sheetLines : Counted → Lines
-sheetLines s = linesGiven (N s) s
+-- "A sheet in memory is tested 4 to 10 in that field order by every call": 9 of the limit that the call names
+unfoldable pub sheetLines : (limit : ℕ) → Counted → Lines
+sheetLines limit s = linesGiven limit (N s) s
 
 -- the numbers
 
@@ -159,15 +159,15 @@ jobsRefusal s n = firstOf (jobsLines nothingRead s n)
 abbrev pub fieldsRefusal : Counted → ℕ
 fieldsRefusal s = firstOf (fieldLines nothingRead s)
 
-abbrev pub limitsRefusal : ℕ → Counted → ℕ
-limitsRefusal queues s = firstOf (limitLines queues s)
+abbrev pub limitsRefusal : (limit queues : ℕ) → Counted → ℕ
+limitsRefusal limit queues s = firstOf (limitLines limit queues s)
 
-abbrev pub refusalGiven : ℕ → Counted → ℕ
-refusalGiven queues s = firstOf (linesGiven queues s)
+abbrev pub refusalGiven : (limit queues : ℕ) → Counted → ℕ
+refusalGiven limit queues s = firstOf (linesGiven limit queues s)
 
 -- the number of a sheet: 0, or the first of 4 to 10 whose test fails
-abbrev pub sheetRefusal : Counted → ℕ
-sheetRefusal s = firstOf (sheetLines s)
+abbrev pub sheetRefusal : (limit : ℕ) → Counted → ℕ
+sheetRefusal limit s = firstOf (sheetLines limit s)
 
 -- the same as plain facts, which theorems ask for; that an accepted sheet has them is proved (`accepted` in proofs/Refusal.antt)
 
@@ -192,7 +192,7 @@ pub record Ranged (s : Counted) : Type 0 where
   pub deadline-high : (i : ℕ) → i < s .jobCount → deadlineAt s i ≤ s .bound
 
 -- and the limits of the whole sheet: what 9 and 10 test
-pub record Accepted (s : Counted) : Type 0 where
+pub record Accepted (limit : ℕ) (s : Counted) : Type 0 where
   pub ranged : Ranged s
-  pub fits : s .horizon * G s * W s ^ s .horizon ≤ valueLimit
+  pub fits : s .horizon * G s * W s ^ s .horizon ≤ limit
   pub queues-high : N s ≤ 65535

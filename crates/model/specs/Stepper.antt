@@ -6,9 +6,9 @@ use mathlib.Core.List.{List}
 use lib.Dec.{leb, eqb}
 use lib.ListN.{length, getD, replicate}
 use Rattle.model.specs.Counted.{Counted, sizeAt, deadlineAt, onSheet, energyOf, greatestEnergy, M}
-use Rattle.model.specs.Plan.{placeOfQueue, rowLines}
+use Rattle.model.specs.Plan.{byteOfQueue, rowLines}
 use Rattle.model.specs.Queue.{Queue, total, positions, queueIn, placesOf, bearable, bearableIn, oneSlot}
-use Rattle.model.specs.Refusal.{sheetLines}
+use Rattle.model.specs.Refusal.{sheetLines, valueLimit}
 use Rattle.model.specs.Tests.{Lines, line, _⨾_, firstOf, anywhere}
 
 -- "A state has a queue, a slot number and the energy spent": the queue as it stands in its six places
@@ -42,7 +42,7 @@ pub record Stepped : Type 0 where
   pub state : State
 
 unfoldable pub startLines : Counted → State → Lines
-startLines s x = sheetLines s ⨾ line 13 (queueRight s x)
+startLines s x = sheetLines valueLimit s ⨾ line 13 (queueRight s x)
 
 abbrev pub startRefusal : Counted → State → ℕ
 startRefusal s x = firstOf (startLines s x)
@@ -55,7 +55,7 @@ start s x =
 
 -- "Speed reads the plan byte at the state's slot and queue number". "The plan bytes are lent and may be damaged": they are any list
 unfoldable pub planByte : Counted → List ℕ → State → ℕ
-planByte s plan x = getD plan (placeOfQueue s (x .slot) (queueOf s x)) 0
+planByte s plan x = byteOfQueue s plan (x .slot) (queueOf s x)
 
 -- "16: the plan byte is no sheet speed, or is below w(1)"
 unfoldable pub byteRight : Counted → State → ℕ → Bool

@@ -11,7 +11,7 @@ use lib.Dec.{leb, ltb, eqb}
 use lib.ListN.{length, getD}
 use Rattle.model.specs.Counted.{Counted, sheetOf, inMemory, zeroSheet, zeroSpeed, zeroJob}
 use Rattle.model.specs.Reading.{_>>=_, _>>_, Answer, value, refused, Reader, onward, done, test, refuse, joined, numberIn, field, readSpeed, readSpeeds, readSpeedTable, readJob, readJobs, readJobTable, ended, judged, readCounted, readAnswer, read}
-use Rattle.model.specs.Refusal.{boundRight, speedCountRight, speedRight, energyRight, horizonRight, jobCountRight, weightRight, sizeRight, deadlineRight, speedField, jobField, linesOfSpeed, linesOfJob, speedsLines, jobsLines, fieldLines, limitLines, limitsRefusal, N}
+use Rattle.model.specs.Refusal.{boundRight, speedCountRight, speedRight, energyRight, horizonRight, jobCountRight, weightRight, sizeRight, deadlineRight, speedField, jobField, linesOfSpeed, linesOfJob, speedsLines, jobsLines, fieldLines, limitLines, limitsRefusal, N, valueLimit}
 use Rattle.model.specs.Tests.{check, _then_, line, _⨾_, firstOf, inOrder, listed}
 use Rattle.model.specs.declared.Job.{Job}
 use Rattle.model.specs.declared.Speed.{Speed}
@@ -252,10 +252,10 @@ afterBound D = do
 
 -- "3: bytes follow the last field", and 9 and 10 of what was read
 after-jobs : (bytes : List ℕ) (s : Counted) (at : ℕ) →
-    Gives (afterJobs s bytes at) (check (leb (length bytes) at) 3 then limitsRefusal (N s) s) s at
+    Gives (afterJobs s bytes at) (check (leb (length bytes) at) 3 then limitsRefusal valueLimit (N s) s) s at
 unfolding judged
 after-jobs bytes s at =
-    let number = limitsRefusal (N s) s in
+    let number = limitsRefusal valueLimit (N s) s in
     let last = then-gives (λ u next. done s bytes next) (refuse-gives number bytes at) (done-gives s bytes at) in
     then-gives _ (test-gives (leb (length bytes) at) 2 bytes at)
     (subst (λ (n : ℕ). Gives (judged N s bytes at) n s at) (then-nothing number) last)
@@ -322,7 +322,7 @@ module _ (bytes : List ℕ) where
       let s = sheetIn bytes in
       let sheet : List Job → Counted = λ jobs. sheetOf (s .bound) (s .speeds) (s .horizon) jobs in
       let from-end =
-      subst (λ (z : Counted). Gives (afterJobs z bytes (endOf bytes)) (firstOf (endLine bytes ⨾ limitLines (N s) s)) s (endOf bytes)) (sym counts-same)
+      subst (λ (z : Counted). Gives (afterJobs z bytes (endOf bytes)) (firstOf (endLine bytes ⨾ limitLines valueLimit (N s) s)) s (endOf bytes)) (sym counts-same)
       (after-jobs bytes s (endOf bytes)) in
       let from-jobs = then-gives (λ jobs next. afterJobs (sheet jobs) bytes next) job-table-gives from-end in
       let from-horizon = tested-gives bytes (speedField (s .speedCount)) horizonRight 6 (afterHorizon (s .bound) (s .speeds)) from-jobs in

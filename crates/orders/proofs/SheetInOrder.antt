@@ -26,11 +26,11 @@ module _ (so : ℕ → Bool) (s : Counted) where
       (r _, (h .0, (r _, (five, ((λ j. (r _, (five, (r _, six)))), (r _, (seven, (r _, (eight, (λ i. (r _, (eight, (r _, (eight, (r _, eight)))))))))))))))
 
   -- 9 and 10
-  pub each-limit : (queues : ℕ) → EachNumber so (9 ∷ 10 ∷ []) → Each so (limitLines queues s)
+  pub each-limit : (limit queues : ℕ) → EachNumber so (9 ∷ 10 ∷ []) → Each so (limitLines limit queues s)
   unfolding limitLines
-  each-limit queues h = (h .0, h .1 .0)
+  each-limit limit queues h = (h .0, h .1 .0)
 
   -- 4 to 10, of a sheet in memory
-  pub each-of-sheet : EachNumber so (4 ∷ 5 ∷ 6 ∷ 7 ∷ 8 ∷ []) → EachNumber so (9 ∷ 10 ∷ []) → Each so (sheetLines s)
+  pub each-of-sheet : (limit : ℕ) → EachNumber so (4 ∷ 5 ∷ 6 ∷ 7 ∷ 8 ∷ []) → EachNumber so (9 ∷ 10 ∷ []) → Each so (sheetLines limit s)
   unfolding sheetLines linesGiven
-  each-of-sheet h k = (each-field _ (λ k. tt) h, each-limit _ k)
+  each-of-sheet limit h k = (each-field _ (λ k. tt) h, each-limit limit _ k)

@@ -10,7 +10,7 @@ use lib.Dec.{T, leb, ltb, eqb}
 use lib.ListN.{length, getD}
 use Rattle.model.specs.Counted.{Counted}
 use Rattle.model.specs.Reading.{Answer, value, refused, field}
-use Rattle.model.specs.Refusal.{speedField, jobField, fieldLines, limitLines, N}
+use Rattle.model.specs.Refusal.{speedField, jobField, fieldLines, limitLines, N, valueLimit}
 use Rattle.model.specs.Tests.{Lines, nothing, line, _⨾_, table, listed}
 use Rattle.model.specs.declared.Job.{Job}
 use Rattle.model.specs.declared.Speed.{Speed}
@@ -136,4 +136,4 @@ endLine bytes = line 3 (leb (length bytes) (endOf bytes))
 
 -- "Reading goes field by field. .. After the last field: 3, 9, 10"
 unfoldable pub readLines : List ℕ → Lines
-readLines bytes = fieldLines (reading bytes) (sheetIn bytes) ⨾ endLine bytes ⨾ limitLines (N (sheetIn bytes)) (sheetIn bytes)
+readLines bytes = fieldLines (reading bytes) (sheetIn bytes) ⨾ endLine bytes ⨾ limitLines valueLimit (N (sheetIn bytes)) (sheetIn bytes)

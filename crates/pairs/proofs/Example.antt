@@ -11,7 +11,7 @@ use Rattle.process.specs.Pairing.{OneToOne}
 use Rattle.model.specs.Cases.{A, at, job}
 use Rattle.model.specs.Counted.{Counted, speedAt, weightAt, sizeAt, deadlineAt, onSheet, energyOf, greatestEnergy, G, M, W, sheetOf}
 use Rattle.model.specs.Queue.{bearableQueues, continuations, eachTotal, queueCount}
-use Rattle.model.specs.Refusal.{speedsLines, jobsLines, fieldLines, limitLines, linesGiven, sheetLines, sheetRefusal, N}
+use Rattle.model.specs.Refusal.{speedsLines, jobsLines, fieldLines, limitLines, linesGiven, sheetLines, sheetRefusal, N, valueLimit}
 use Rattle.model.specs.Tests.{inOrder, firstPlace, greatest}
 use Rattle.model.proofs.Counted.{on-sheet-at, place-of}
 use Rattle.pairs.specs.Paired.{Paired}
@@ -27,11 +27,11 @@ other i = 1 - i
 others : OneToOne 2 other other
 others = omega arith
 
-accepted-A : sheetRefusal A ≡ 0
+accepted-A : sheetRefusal valueLimit A ≡ 0
 unfolding sheetLines linesGiven N fieldLines speedsLines jobsLines limitLines inOrder G greatestEnergy W M greatest sum queueCount bearableQueues continuations eachTotal
 accepted-A = refl
 
-accepted-easier : sheetRefusal easier ≡ 0
+accepted-easier : sheetRefusal valueLimit easier ≡ 0
 unfolding sheetLines linesGiven N fieldLines speedsLines jobsLines limitLines inOrder G greatestEnergy W M greatest sum queueCount bearableQueues continuations eachTotal
 accepted-easier = refl
 

@@ -7,12 +7,12 @@ use lib.ListN.{length}
 use Rattle.process.specs.Pairing.{OneToOne}
 use Rattle.model.specs.Counted.{Counted, weightAt, sizeAt, deadlineAt, onSheet, energyOf}
 use Rattle.model.specs.Queue.{Queue, NeverFalls, NoLonger}
-use Rattle.model.specs.Refusal.{sheetRefusal}
+use Rattle.model.specs.Refusal.{sheetRefusal, valueLimit}
 
 -- two accepted sheets; the entry of `first` at place i is paired with that of `second` at place `there i`
 pub record Paired (first second : Counted) (there back : ℕ → ℕ) : Type 0 where
-  pub first-accepted : sheetRefusal first ≡ 0
-  pub second-accepted : sheetRefusal second ≡ 0
+  pub first-accepted : sheetRefusal valueLimit first ≡ 0
+  pub second-accepted : sheetRefusal valueLimit second ≡ 0
   pub same-bound : second .bound ≡ first .bound
   pub same-horizon : second .horizon ≡ first .horizon
   pub same-count : second .jobCount ≡ first .jobCount

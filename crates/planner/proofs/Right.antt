@@ -4,7 +4,7 @@ use Prim.Native.Nat.{ℕ, zero, suc, pred, _+_, _-_, _≤_, _<_}
 use mathlib.Core.Path.{_≡_, refl, sym, ap, _∙_, subst}
 use mathlib.Core.List.{List}
 use mathlib.Core.Option.{Option, Option·getD}
-use native.Mathlib.Nat.{le-refl, mul-one, not-suc-le-zero}
+use native.Mathlib.Nat.{not-suc-le-zero}
 use native.Mathlib.Omega.{arith}
 use lib.Dec.{T}
 use lib.ListN.{length, getD, drop, length-drop}
@@ -15,12 +15,10 @@ use Rattle.process.specs.Ways.{IsValue, IsFirst}
 use Rattle.model.proofs.Queues.{listed-bearable, empty-first}
 use Rattle.model.proofs.Refusal.{Accepted, speeds-rise, N-is, N-low}
 use Rattle.model.specs.Counted.{Counted, weightAt, M}
-use Rattle.model.specs.Plan.{processOf, IsValueAt, IsPlanByte, valueIn, queueAt, placeAt, valuesNeeded, planNeeded, PlanAnswer, Decided, FromEmpty, Filled, number12}
+use Rattle.model.specs.Plan.{processOf, IsValueAt, IsPlanByte, queueAt, placeAt, valuePlaces, planNeeded, PlanAnswer, PlanFilled, ValuesFilled, Filled, number12}
 use Rattle.model.specs.Queue.{Queue, emptyQueue, bearable}
 use Rattle.model.specs.Refusal.{N}
-use Rattle.value.proofs.OnePlace.{read-is}
-use Rattle.value.specs.Narrow as narrow
-use Rattle.value.specs.Width.{Width, readAt}
+use Rattle.model.specs.Width.{Width, valueIn}
 use Rattle.choose.specs.Choice.{byteOf}
 use Rattle.backward.specs.Passes.{valueWith, choiceWith, PlannedFrom}
 use Rattle.backward.proofs.FirstPass.{value-chosen}
@@ -31,7 +29,7 @@ drop-same n l m long same =
     ext-getD 0 (drop n l) (drop n m) (length-drop n l ∙ ap (λ (k : ℕ). k - n) long ∙ sym (length-drop n m))
     (λ i h. getD-drop n l i 0 ∙ same (n + i) (omega arith) ∙ sym (getD-drop n m i 0))
 
-module _ (s : Counted) (a : Accepted s) where
+module _ (s : Counted) {limit : ℕ} (a : Accepted limit s) where
   -- the recursion's value is the least scaled energy of a good way, or none where no way is good
   pub value-least : (k : ℕ) (w : Queue) → IsValue (processOf s) (s .jobCount) (weightAt s) k w (valueWith s k w)
   unfolding valueWith
@@ -66,70 +64,53 @@ module _ (s : Counted) (a : Accepted s) where
       go (chosen speed v) e = first-right (s .horizon - t) w speed v (omega arith) b e
 
 -- memory that is planned from the horizon back to slot 0, at any width
-module _ (width : Width) (s : Counted) (a : Accepted s) {values₀ plan₀ values plan : List ℕ}
+module _ (width : Width) (s : Counted) {limit : ℕ} (a : Accepted limit s) {values₀ plan₀ values plan : List ℕ}
     (p : PlannedFrom width s (s .horizon) values₀ plan₀ values plan) where
-  -- at each place of a slot and a queue stand its value and its plan byte
-  pub decided : (t i : ℕ) → t < s .horizon → i < N s → Decided s t i (readAt width values (placeAt s t i)) (getD plan (placeAt s t i) 0)
-  decided t i h k =
+  -- the values are the recursion's
+  abbrev valueAt : ℕ → ℕ → Option ℕ
+  valueAt t i = valueWith s (s .horizon - t) (queueAt s i)
+
+  -- the plan's bytes are right by them
+  plan-filled : PlanFilled s valueAt plan₀ plan
+  plan-filled =
       record {
-        r = valueWith s (s .horizon - t) (queueAt s i);
-        is-value = value-least s a (s .horizon - t) (queueAt s i);
-        in-values = p .values-right t i (omega arith) (omega arith) k;
-        in-plan =
-            subst (λ (byte : ℕ). IsPlanByte s t (queueAt s i) (valueWith s (s .horizon - t) (queueAt s i)) byte)
-            (sym (p .plan-right t i (omega arith) h k))
+        bytes = λ t i h k.
+            subst (IsPlanByte s t (queueAt s i) (valueAt t i)) (sym (p .plan-right t i (omega arith) h k))
             (byte-first s a t h (queueAt s i) (listed-bearable (M s) (s .bound) i (omega (arith, N-is s)) .1));
+        same-length = p .plan-length;
+        beyond = drop-same (planNeeded s) plan plan₀ (p .plan-length) (p .plan-beyond);
       }
 
-  -- at each place of the values stands the value of its slot and queue, the end row too
-  pub valued : (t i : ℕ) → t ≤ s .horizon → i < N s → IsValueAt s t (queueAt s i) (readAt width values (placeAt s t i))
-  valued t i h k =
-      subst (λ (r : Option ℕ). IsValueAt s t (queueAt s i) r) (sym (p .values-right t i (omega arith) h k))
-      (value-least s a (s .horizon - t) (queueAt s i))
+  -- and they stand in the values
+  values-filled : ValuesFilled width s valueAt values₀ values
+  values-filled =
+      record {
+        each = λ t i h k. p .values-right t i (omega arith) h k;
+        same-length = p .values-length;
+        beyond = drop-same (valuePlaces width s) values values₀ (p .values-length) (p .values-beyond);
+      }
 
   -- the first value of all is the empty queue's at slot 0
-  empty-value : IsValueAt s 0 (emptyQueue (s .bound)) (readAt width values (placeAt s 0 0))
+  empty-value : IsValueAt s 0 (emptyQueue (s .bound)) (valueIn width values (placeAt s 0 0))
   empty-value =
-      subst (λ (w : Queue). IsValueAt s 0 w (readAt width values (placeAt s 0 0))) (empty-first (M s) (s .bound))
-      (valued 0 0 (omega arith) (omega (arith, N-low s (a .ranged))))
+      subst (IsValueAt s 0 (emptyQueue (s .bound))) (sym (p .values-right 0 0 (omega arith) (omega arith) (omega (arith, N-low s (a .ranged)))))
+      (subst (λ (w : Queue). IsValueAt s 0 w (valueAt 0 0)) (empty-first (M s) (s .bound)) (value-least s a (s .horizon - 0) (queueAt s 0)))
 
-  -- so that the answer is right where its number and its least energy are those of the first value
-  pub from-empty : (answer : PlanAnswer) {place : ℕ} {r : Option ℕ} → place ≡ placeAt s 0 0 → r ≡ readAt width values place →
-      answer .number ≡ number12 r → answer .least ≡ Option·getD r 0 → FromEmpty s answer
-  from-empty answer {r = r} first e number least =
+  -- so such memory is filled as the model says, and the answer right where its number and its least energy are those of the first value
+  pub memory-filled : (answer : PlanAnswer) {place : ℕ} {r : Option ℕ} → place ≡ placeAt s 0 0 → r ≡ valueIn width values place →
+      answer .queues ≡ N s → answer .number ≡ number12 r → answer .least ≡ Option·getD r 0 → Filled width s values₀ plan₀ values plan answer
+  memory-filled answer {r = r} first e queues number least =
       record {
-        r = r;
-        is-value = subst (λ (q : Option ℕ). IsValueAt s 0 (emptyQueue (s .bound)) q) (sym (e ∙ ap (readAt width values) first)) empty-value;
-        number = number;
-        least = least;
+        r = valueAt;
+        are-values = λ t i h k. value-least s a (s .horizon - t) (queueAt s i);
+        in-plan = plan-filled;
+        in-values = values-filled;
+        queues = queues;
+        empty =
+            record {
+              r = r;
+              is-value = subst (IsValueAt s 0 (emptyQueue (s .bound))) (sym (e ∙ ap (valueIn width values) first)) empty-value;
+              number = number;
+              least = least;
+            };
       }
-
--- at the width of document 01
-
--- the planner reads a value as the model does: the code of none is the same
-pub read-value-in : (l : List ℕ) (i : ℕ) → readAt narrow.width l i ≡ valueIn l i
-read-value-in l i = read-is l i
-
--- such memory is filled as the model says
-pub memory-filled : (s : Counted) → Accepted s → {values₀ plan₀ values plan : List ℕ} →
-    PlannedFrom narrow.width s (s .horizon) values₀ plan₀ values plan → (answer : PlanAnswer) {place : ℕ} {r : Option ℕ} →
-    place ≡ placeAt s 0 0 → r ≡ readAt narrow.width values place → answer .queues ≡ N s → answer .number ≡ number12 r → answer .least ≡
-    Option·getD r 0 →
-    Filled valueIn s values₀ plan₀ values plan answer
-memory-filled s a {values₀ = values₀} {plan₀ = plan₀} {values = values} {plan = plan} p answer first e queues number least =
-    record {
-      rows =
-          λ t i h k.
-          subst (λ (r : Option ℕ). Decided s t i r (getD plan (placeAt s t i) 0)) (read-value-in values (placeAt s t i))
-          (decided narrow.width s a p t i h k);
-      end-row =
-          λ i k.
-          subst (λ (r : Option ℕ). IsValueAt s (s .horizon) (queueAt s i) r) (read-value-in values (placeAt s (s .horizon) i))
-          (valued narrow.width s a p (s .horizon) i (le-refl (s .horizon)) k);
-      values-length = p .values-length;
-      plan-length = p .plan-length;
-      values-beyond = drop-same (valuesNeeded s) values values₀ (p .values-length) (λ q h. p .values-beyond q (rw mul-one h));
-      plan-beyond = drop-same (planNeeded s) plan plan₀ (p .plan-length) (p .plan-beyond);
-      queues = queues;
-      empty = from-empty narrow.width s a p answer first e number least;
-    }

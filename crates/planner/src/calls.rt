@@ -1,19 +1,18 @@
-// The two calls: `plan` and `row`.
+// The call `plan`.
 use backward::fill;
 use counts::table;
+use layout::place;
 use model::Sheet;
-use rows::sizes_of;
-use sheets::place;
-use sheets::row_refusal;
 use sheets::sheet_refusal;
+use sheets::sizes_of;
 use value::Value;
 ghost use mathlib.Core.Path.{_≡_};
 ghost use mathlib.Core.Option.{Option·getD};
 ghost use Rattle.model.specs.Counted.{counted};
 ghost use Rattle.model.specs.Plan.{planRefusal, number12};
 ghost use Rattle.counts.specs.Counts.{HoldsCounts};
-ghost use Rattle.value.specs.Narrow.{valueOf};
-ghost use Rattle.planner.specs.Calls.{IsPlan, IsRow};
+ghost use Rattle.value.specs.Narrow.{width, valueOf};
+ghost use Rattle.planner.specs.Calls.{IsPlan};
 
 // What a plan answers: its number, how many queues there are, and the least energy from the empty queue at slot 0.
 pub struct PlanAnswer {
@@ -54,7 +53,7 @@ fn planned(queues: u32, least: Value) -> PlanAnswer
 // 4 to 10, then 11 where the lent values are too short for T+1 rows or the lent plan for T.
 fn plan_refusal(counts: &[u32; 2352], sheet: Sheet, values_room: usize, plan_room: usize) -> u32
     requires { ⌜ HoldsCounts (now counts) ⌝ }
-    ensures { λ r. ⌜ r ≡ planRefusal (counted sheet) «values_room» «plan_room» ⌝ }
+    ensures { λ r. ⌜ r ≡ planRefusal width (counted sheet) «values_room» «plan_room» ⌝ }
 {
     let number = sheet_refusal(counts, sheet);
     if number != 0 {
@@ -87,22 +86,4 @@ pub fn plan(sheet: Sheet, values: &mut [u64], plan: &mut [u8]) -> PlanAnswer
         sizes.queues as u32,
         value::load(values, place(sizes.queues, 0, 0)),
     )
-}
-
-// The part of a plan that belongs to a slot: one byte for each queue, in the order of their numbers. It is empty where the sheet is
-// refused, the plan too short, or the slot not one of the sheet's.
-pub fn row(sheet: Sheet, plan: &[u8], slot: u32) -> &[u8]
-    ensures { λ r. ⌜ IsRow (counted sheet) (now (plan .entry)) slot (now r) ⌝ }
-{
-    let counts = table();
-    if row_refusal(&counts, sheet, plan.len()) != 0 {
-        return &plan[..0];
-    }
-    if sheet.horizon <= slot {
-        return &plan[..0];
-    }
-    let sizes = sizes_of(&counts, sheet);
-    let first = place(sizes.queues, slot, 0);
-    let end = first + sizes.queues;
-    &plan[first..end]
 }

@@ -16,10 +16,10 @@ use Rattle.model.specs.Queue.{Queue, total, queueIn, bearable, queueCount, numb
 use Rattle.model.proofs.Queues.{length-in, bearable-at, bearable-all, listed-bearable, number-below, number-place, number-of-place, queue-count}
 use Rattle.queues.specs.Blocks.{queueWith, blockOf, lastOf, firstOf, lowestOf, numberIn, InBlock, Alike, Shifted, risen}
 use Rattle.queues.specs.Order.{earlierAt}
-use Rattle.slot.specs.Slot.{kept}
+use Rattle.slot.specs.Slot.{lastTwice}
 use Rattle.queues.proofs.Numbering.{number-sum}
 use Rattle.slot.proofs.Places.{total-in}
-use Rattle.slot.proofs.Slots.{length-kept, total-kept, last-kept, bearable-kept}
+use Rattle.slot.proofs.Slots.{length-twice, total-twice, last-twice, bearable-twice}
 
 -- what comes before at a position
 
@@ -236,24 +236,24 @@ module _ (M d b : ℕ) (h : b < queueCount M d) where
   listed = listed-bearable M d b h
 
   -- its first queue is what stands before, the last total kept
-  first-kept : firstOf M (suc d) b ≡ kept before
-  first-kept = take-all (suc d) (kept before) (omega (arith, length-kept before, listed .0))
+  first-twice : firstOf M (suc d) b ≡ lastTwice before
+  first-twice = take-all (suc d) (lastTwice before) (omega (arith, length-twice before, listed .0))
 
-  first-bearable : T (bearable M (kept before))
-  first-bearable = subst T (sym (bearable-kept M before)) (listed .1)
+  first-bearable : T (bearable M (lastTwice before))
+  first-bearable = subst T (sym (bearable-twice M before)) (listed .1)
 
-  first-last : total (kept before) (suc d) ≡ lowestOf M (suc d) b
-  first-last = subst (λ (i : ℕ). total (kept before) (suc i) ≡ total before i) (listed .0) (last-kept before)
+  first-last : total (lastTwice before) (suc d) ≡ lowestOf M (suc d) b
+  first-last = subst (λ (i : ℕ). total (lastTwice before) (suc i) ≡ total before i) (listed .0) (last-twice before)
 
   -- a queue that has the same before its last total, from the lowest last total on
   module _ (w : Queue) (long : length w ≡ suc d) (same : queueIn d w ≡ before) where
-    first-alike : Alike (suc d) (kept before) w
+    first-alike : Alike (suc d) (lastTwice before) w
     first-alike =
         record {
-          long = length-kept before ∙ ap suc (listed .0);
+          long = length-twice before ∙ ap suc (listed .0);
           long-too = long;
           same = λ u l.
-              total-kept before u (omega (arith, listed .0)) ∙ ap (λ (q : Queue). total q u) (sym same) ∙ total-in d w u (omega arith);
+              total-twice before u (omega (arith, listed .0)) ∙ ap (λ (q : Queue). total q u) (sym same) ∙ total-in d w u (omega arith);
         }
 
     -- stands as much behind the first one as its last total is higher
@@ -262,8 +262,8 @@ module _ (M d b : ℕ) (h : b < queueCount M d) where
     number-behind t low =
         omega (
           arith,
-          number-last M d (kept before) w first-alike first-bearable t (omega (arith, first-last)),
-          ap (numberOf M) first-kept,
+          number-last M d (lastTwice before) w first-alike first-bearable t (omega (arith, first-last)),
+          ap (numberOf M) first-twice,
           first-last,
         )
 
@@ -292,7 +292,7 @@ module _ (M d b x n : ℕ) (h : b < queueCount M d) (low : lowestOf M (suc d) b 
 
   other-bearable : T (bearable M other)
   other-bearable =
-      bearable-with M (suc d) (kept (queueWith M d b)) other (first-alike M d b h other other-long other-same) (first-bearable M d b h)
+      bearable-with M (suc d) (lastTwice (queueWith M d b)) other (first-alike M d b h other other-long other-same) (first-bearable M d b h)
       (omega (arith, first-last M d b h, other-last)) (omega (arith, other-last))
 
   other-number : numberOf M other ≡ n
@@ -351,9 +351,9 @@ module _ (M : ℕ) where
       (length (firstOf M d b) ≡ d) × T (bearable M (firstOf M d b)) × (total (firstOf M d b) d ≡ lowestOf M d b)
   first-queue zero b low h = absurd (not-suc-le-zero low)
   first-queue (suc d) b low h = (
-    ap (λ (q : Queue). length q) (first-kept M d b h) ∙ length-kept (queueWith M d b) ∙ ap suc (listed M d b h .0),
-    subst (λ (q : Queue). T (bearable M q)) (sym (first-kept M d b h)) (first-bearable M d b h),
-    ap (λ (q : Queue). total q (suc d)) (first-kept M d b h) ∙ first-last M d b h,
+    ap (λ (q : Queue). length q) (first-twice M d b h) ∙ length-twice (queueWith M d b) ∙ ap suc (listed M d b h .0),
+    subst (λ (q : Queue). T (bearable M q)) (sym (first-twice M d b h)) (first-bearable M d b h),
+    ap (λ (q : Queue). total q (suc d)) (first-twice M d b h) ∙ first-last M d b h,
   )
 
   -- every other differs from it in the last total alone
@@ -361,5 +361,5 @@ module _ (M : ℕ) where
       Alike d (firstOf M d b) (queueWith M d n)
   block-alike zero b n low h l e = absurd (not-suc-le-zero low)
   block-alike (suc d) b n low h l e =
-      subst (λ (q : Queue). Alike (suc d) q (queueWith M (suc d) n)) (sym (first-kept M d b h))
+      subst (λ (q : Queue). Alike (suc d) q (queueWith M (suc d) n)) (sym (first-twice M d b h))
       (first-alike M d b h (queueWith M (suc d) n) (listed-bearable M (suc d) n l .0) (before-same M d b n l e))

@@ -7,7 +7,7 @@ use mathlib.Core.List.{[]}
 use lib.ListN.{length, getD}
 use Rattle.process.specs.Sums.{sum}
 use Rattle.model.specs.Queue.{Queue, total, queueIn, bearableQueues, queueCount, numberOf}
-use Rattle.slot.specs.Slot.{kept}
+use Rattle.slot.specs.Slot.{lastTwice}
 
 -- the queue of d positions with number n
 abbrev pub queueWith : ℕ → ℕ → ℕ → Queue
@@ -23,7 +23,7 @@ lastOf M d n = total (queueWith M d n) d
 
 -- the first queue of block b: the last total of what stands before stands once more. (With no position there is one queue, and one block)
 abbrev pub firstOf : ℕ → ℕ → ℕ → Queue
-firstOf M d b = queueIn d (kept (queueWith M (pred d) b))
+firstOf M d b = queueIn d (lastTwice (queueWith M (pred d) b))
 
 -- its number
 abbrev pub startOf : ℕ → ℕ → ℕ → ℕ

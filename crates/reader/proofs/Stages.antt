@@ -7,7 +7,7 @@ use borrow.Author.Tests.{le-leb, lt-leb}
 use lib.ListN.{length}
 use Rattle.model.specs.Counted.{Counted, sheetOf, counted, inMemory, zeroSheet}
 use Rattle.model.specs.Reading.{Answer, value, refused, Reader, _>>=_, _>>_, done, test, refuse, field, ended, readSpeedTable, readJobTable, judged, readCounted, readAnswer, read}
-use Rattle.model.specs.Refusal.{boundRight, horizonRight, fieldsRefusal, limitsRefusal, N}
+use Rattle.model.specs.Refusal.{boundRight, horizonRight, fieldsRefusal, limitsRefusal, N, valueLimit}
 use Rattle.model.specs.declared.Job.{Job}
 use Rattle.model.specs.declared.Sheet.{Sheet}
 use Rattle.model.specs.declared.Speed.{Speed}
@@ -97,7 +97,7 @@ bytes-follow bytes at D T speeds jobs h = after-refused ended (judged N (sheetOf
 
 -- 9 and 10 of a sheet by their number
 
-judged-by : (s : Counted) (bytes : List ℕ) (at k : ℕ) → k ≡ limitsRefusal (N s) s → judged N s bytes at ≡ _>>_ (refuse k) (done s) bytes at
+judged-by : (s : Counted) (bytes : List ℕ) (at k : ℕ) → k ≡ limitsRefusal valueLimit (N s) s → judged N s bytes at ≡ _>>_ (refuse k) (done s) bytes at
 unfolding judged
 judged-by s bytes at k e = ap (λ (n : ℕ). _>>_ (refuse n) (done s) bytes at) (sym e)
 
@@ -111,7 +111,7 @@ given-by bytes at s (suc k) m g e = read-refused bytes e refl g
 
 pub read-judged : (bytes : List ℕ) (at D T : ℕ) (speeds : List Speed) (jobs : List Job) {number : ℕ} {memory sheet : Sheet} →
     readCounted N bytes 0 ≡ atEnd D speeds T jobs bytes at → length bytes ≤ at →
-    number ≡ limitsRefusal (N (sheetOf D speeds T jobs)) (sheetOf D speeds T jobs) →
+    number ≡ limitsRefusal valueLimit (N (sheetOf D speeds T jobs)) (sheetOf D speeds T jobs) →
     memory ≡ inMemory (sheetOf D speeds T jobs) → sheet ≡ sheetGiven number memory → IsRead bytes number sheet
 unfolding atEnd
 read-judged bytes at D T speeds jobs {number = number} e h n m g =

@@ -9,8 +9,8 @@ use native.Mathlib.Omega.{arith}
 use Rattle.model.specs.Queue.{queueCount}
 use Rattle.queues.specs.Blocks.{lowestOf, lastOf, blockOf, numberIn, InBlock, InBlocks}
 use Rattle.queues.proofs.Blocks.{block-below, block-place, in-block}
-use Rattle.value.specs.Fills.{Fills, FillsWhere}
-use Rattle.value.proofs.Filling.{Local, where-none, where-one, where-joined, where-all}
+use Rattle.buffers.specs.Fills.{Fills, FillsWhere}
+use Rattle.buffers.proofs.Filling.{Local, where-none, where-one, where-joined, where-all}
 
 module _ {A : Type 0} (places : ℕ) (reader : List ℕ → ℕ → A) (local : Local places reader) (M d : ℕ) (f : ℕ → A) (from : ℕ) where
   -- of a block

@@ -1,5 +1,5 @@
 pub mod Rows
-pub mod Measures
-pub mod Kept
+pub mod Room
+pub mod LastTwice
 pub mod Tables
 pub mod Blocks

@@ -12,27 +12,27 @@ use Rattle.model.specs.Queue.{Queue, total, NeverFalls, queueIn, bearable, queu
 use Rattle.laws.proofs.Longer.{run-never-falls}
 use Rattle.model.proofs.Queues.{number-below, number-place, length-in, length-run}
 use Rattle.queues.specs.Blocks.{queueWith}
-use Rattle.slot.specs.Slot.{kept}
-use Rattle.slot.proofs.Slots.{run-kept, run-bearable}
-use Rattle.value.specs.Width.{Width, readAt}
+use Rattle.slot.specs.Slot.{lastTwice}
+use Rattle.slot.proofs.Slots.{run-twice, run-bearable}
+use Rattle.model.specs.Width.{Width, valueIn}
 use Rattle.rows.specs.Rows.{valueInRow, Row, RowOf, RowAfter}
 
 -- a test changes no value that is none where the test fails
-only-kept : (b : Bool) (r : Option ℕ) → (b ≡ false → r ≡ none) → only b r ≡ r
-only-kept true r failed = refl
-only-kept false r failed = sym (failed refl)
+only-twice : (b : Bool) (r : Option ℕ) → (b ≡ false → r ≡ none) → only b r ≡ r
+only-twice true r failed = refl
+only-twice false r failed = sym (failed refl)
 
 module _ (width : Width) (largest : ℕ) where
   -- of a queue that is not bearable a row says none
   pub none-in-row : (l : List ℕ) (from : ℕ) (w : Queue) → bearable largest w ≡ false → valueInRow width largest l from w ≡ none
   unfolding valueInRow
-  none-in-row l from w e = ap (λ (b : Bool). only b (readAt width l (from + numberOf largest w))) e
+  none-in-row l from w e = ap (λ (b : Bool). only b (valueIn width l (from + numberOf largest w))) e
 
   -- of a bearable queue it says what stands at the queue's number
   pub read-in-row : (l : List ℕ) (from : ℕ) (w : Queue) → bearable largest w ≡ true →
-      valueInRow width largest l from w ≡ readAt width l (from + numberOf largest w)
+      valueInRow width largest l from w ≡ valueIn width l (from + numberOf largest w)
   unfolding valueInRow
-  read-in-row l from w e = ap (λ (b : Bool). only b (readAt width l (from + numberOf largest w))) e
+  read-in-row l from w e = ap (λ (b : Bool). only b (valueIn width l (from + numberOf largest w))) e
 
   -- where in the row stands what f gives of each bearable queue, it says of a queue what f gives of it
   row-found : (D : ℕ) (f : Queue → Option ℕ) (from : ℕ) (l : List ℕ) →
@@ -49,16 +49,16 @@ module _ (width : Width) (largest : ℕ) where
   -- that is all that it says, where f gives none of a queue that is not bearable
   pub row-says : (D : ℕ) (f : Queue → Option ℕ) (from : ℕ) (l : List ℕ) → RowOf width largest D f from l → (w : Queue) → length w ≡ D →
       valueInRow width largest l from w ≡ f w
-  row-says D f from l row w long = row-found D f from l (row .stands) w long ∙ only-kept (bearable largest w) (f w) (row .strict w)
+  row-says D f from l row w long = row-found D f from l (row .row) w long ∙ only-twice (bearable largest w) (f w) (row .strict w)
 
   -- and after a slot at a speed of at least w(1), by the positions before the last, what g gives of the queue after the slot
   pub after-says : (D : ℕ) (g : Queue → Option ℕ) (from : ℕ) (l : List ℕ) → RowAfter width largest D g from l → (w : Queue) (speed : ℕ) →
       1 ≤ D → length w ≡ D → NeverFalls w → total w 1 ≤ speed → valueInRow width largest l from (queueIn (pred D) (run w speed)) ≡ g
       (run w speed)
   after-says D g from l row w speed low long never fast =
-      row-found (pred D) (λ v. g (kept v)) from l (row .stands) before shorter ∙
-      ap (λ (v : Queue). only (bearable largest before) (g v)) (sym (run-kept w speed (pred D) whole fast)) ∙
-      only-kept (bearable largest before) (g (run w speed))
+      row-found (pred D) (λ v. g (lastTwice v)) from l (row .row) before shorter ∙
+      ap (λ (v : Queue). only (bearable largest before) (g v)) (sym (run-twice w speed (pred D) whole fast)) ∙
+      only-twice (bearable largest before) (g (run w speed))
       (λ e. row .strict (run w speed) (run-never-falls w speed never) (run-bearable largest w speed (pred D) whole fast ∙ e))
     where
       before : Queue

@@ -7,8 +7,8 @@ use native.Mathlib.Nat.{add-zero, suc-mul, mul-le-mul-right, not-suc-le-zero, eq
 use native.Mathlib.Omega.{arith}
 use lib.ListN.{length, getD, set, length-set}
 use lib.Seq.{getD-set-same, getD-set-other}
-use Rattle.value.specs.Fills.{Fills, numberAt}
-use Rattle.value.proofs.Filling.{number-local, number-stored, fills-none, fills-more}
+use Rattle.buffers.specs.Fills.{Fills, numberAt}
+use Rattle.buffers.proofs.Filling.{number-local, number-stored, fills-none, fills-more}
 use Rattle.rows.specs.Tables.{lineOf, lineAt, Columns, Lines, LinesPut, Table}
 
 -- the columns
@@ -45,12 +45,12 @@ columns-more c place a b l low room f g e d so-far =
         so-far .seconds j k
 
 -- what is written behind the columns leaves them as they are
-columns-kept : (c n : ℕ) {f g : ℕ → ℕ} {l l′ : List ℕ} → n ≤ c → ((p : ℕ) → p < c + c → getD l′ p 0 ≡ getD l p 0) → Columns c n f g l →
+columns-twice : (c n : ℕ) {f g : ℕ → ℕ} {l l′ : List ℕ} → n ≤ c → ((p : ℕ) → p < c + c → getD l′ p 0 ≡ getD l p 0) → Columns c n f g l →
     Columns c n f g l′
-columns-kept c n few kept columns =
+columns-twice c n few lastTwice columns =
     record {
-      firsts = λ j h. kept j (omega arith) ∙ columns .firsts j h;
-      seconds = λ j h. kept (c + j) (omega arith) ∙ columns .seconds j h;
+      firsts = λ j h. lastTwice j (omega arith) ∙ columns .firsts j h;
+      seconds = λ j h. lastTwice (c + j) (omega arith) ∙ columns .seconds j h;
     }
 
 -- a line
@@ -157,4 +157,4 @@ put-all c n line {l₀} {l} e = subst (λ (k : ℕ). LinesPut c n k line l₀ l)
 pub table-whole : (c n : ℕ) {blocks all : ℕ} {f g : ℕ → ℕ} {line : ℕ → ℕ → ℕ} {l l′ : List ℕ} → n ≤ c → blocks ≡ all → Columns c n f g l →
     LinesPut c n blocks line l l′ → Table c n all f g line l′
 table-whole c n {line = line} few e columns put =
-    record { columns = columns-kept c n few (put .columns-same) columns; lines = put-all c n line e put .lines }
+    record { columns = columns-twice c n few (put .columns-same) columns; lines = put-all c n line e put .lines }

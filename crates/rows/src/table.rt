@@ -1,6 +1,6 @@
 // The table that a pass reads along the blocks of a row: where its lines stand, and how its columns and its lines are begun.
-use crate::sizes::one_fewer;
 use queues::queue_at;
+use sheets::one_fewer;
 use slot::total;
 ghost use mathlib.Core.Path.{_≡_};
 ghost use Prim.Native.Nat.{ℕ, pred, _+_, _*_, _≤_, _<_};
@@ -9,14 +9,14 @@ ghost use Rattle.model.specs.Queue.{placesOf, queueCount};
 ghost use Rattle.queues.specs.Blocks.{queueWith};
 ghost use Rattle.counts.specs.Counts.{HoldsCounts};
 ghost use Rattle.queues.specs.Order.{Ranges};
-ghost use Rattle.slot.specs.Slot.{kept};
-ghost use Rattle.value.specs.Fills.{Fills, numberAt};
+ghost use Rattle.slot.specs.Slot.{lastTwice};
+ghost use Rattle.buffers.specs.Fills.{Fills, numberAt};
 ghost use Rattle.rows.specs.Tables.{lineOf, lineAt, Columns};
 
 // The first queue of a block of queues of so many positions: the last total of what stands before it stands once more.
 pub fn first_queue(counts: &[u32; 2352], largest: u32, positions: usize, block: usize) -> [u32; 6]
     requires { ⌜ HoldsCounts (now counts) × Ranges largest positions × (block < queueCount largest (pred positions)) ⌝ }
-    ensures { λ r. ⌜ r ≡ placesOf (kept (queueWith largest (pred positions) block)) ⌝ }
+    ensures { λ r. ⌜ r ≡ placesOf (lastTwice (queueWith largest (pred positions) block)) ⌝ }
 {
     let fewer = one_fewer(positions);
     let mut queue = queue_at(counts, largest, fewer, block);

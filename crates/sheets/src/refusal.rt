@@ -10,7 +10,7 @@ use ranges::speed_count_right;
 ghost use mathlib.Core.Path.{_≡_};
 ghost use Prim.Native.Nat.{_≤_, _<_};
 ghost use Rattle.model.specs.Counted.{counted};
-ghost use Rattle.model.specs.Refusal.{speedRefusalAt, jobRefusalAt, speedsRefusal, jobsRefusal, fieldsRefusal, sheetRefusal};
+ghost use Rattle.model.specs.Refusal.{speedRefusalAt, jobRefusalAt, speedsRefusal, jobsRefusal, fieldsRefusal, sheetRefusal, valueLimit};
 ghost use Rattle.counts.specs.Counts.{HoldsCounts};
 
 // The number of the speed at a place.
@@ -93,7 +93,7 @@ fn fields_refusal(sheet: Sheet) -> u32
 // The number of a sheet in memory, whatever stands in it.
 pub fn sheet_refusal(counts: &[u32; 2352], sheet: Sheet) -> u32
     requires { ⌜ HoldsCounts (now counts) ⌝ }
-    ensures { λ r. ⌜ r ≡ sheetRefusal (counted sheet) ⌝ }
+    ensures { λ r. ⌜ r ≡ sheetRefusal valueLimit (counted sheet) ⌝ }
 {
     let fields = fields_refusal(sheet);
     if fields != 0 {

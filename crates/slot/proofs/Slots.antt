@@ -15,43 +15,43 @@ use lib.Seq.{take-suc, take-all, getD-append-seam}
 use Rattle.model.specs.Queue.{Queue, total, NeverFalls, queueIn, bearable, run, arrive}
 use Rattle.model.proofs.Queues.{total-past, length-run, length-arrive, total-run, total-arrive, bearable-at, bearable-all, bearable-upto, length-in}
 use Rattle.model.proofs.Tests.{same-test}
-use Rattle.slot.specs.Slot.{Small, kept}
+use Rattle.slot.specs.Slot.{Small, lastTwice}
 use Rattle.slot.proofs.Places.{total-in}
 
 -- a queue whose last total stands once more (specs/Slot.antt)
 
 -- it has one position more
-pub length-kept : (v : Queue) → length (kept v) ≡ suc (length v)
-length-kept v = length-append v _ ∙ add-one (length v)
+pub length-twice : (v : Queue) → length (lastTwice v) ≡ suc (length v)
+length-twice v = length-append v _ ∙ add-one (length v)
 
 -- its totals up to the old last one are the old ones
-pub total-kept : (v : Queue) (u : ℕ) → u ≤ length v → total (kept v) u ≡ total v u
-total-kept v zero h = refl
-total-kept v (suc i) h = List·getD-append v _ 0 i h
+pub total-twice : (v : Queue) (u : ℕ) → u ≤ length v → total (lastTwice v) u ≡ total v u
+total-twice v zero h = refl
+total-twice v (suc i) h = List·getD-append v _ 0 i h
 
 -- its last total is the old last one
-pub last-kept : (v : Queue) → total (kept v) (suc (length v)) ≡ total v (length v)
-last-kept v = getD-append-seam v (total v (length v)) [] 0
+pub last-twice : (v : Queue) → total (lastTwice v) (suc (length v)) ≡ total v (length v)
+last-twice v = getD-append-seam v (total v (length v)) [] 0
 
 -- a queue whose last total stands once more is bearable exactly where the queue was
-pub bearable-kept : (M : ℕ) (v : Queue) → bearable M (kept v) ≡ bearable M v
-bearable-kept M v =
-    same-test (bearable M (kept v)) (bearable M v)
+pub bearable-twice : (M : ℕ) (v : Queue) → bearable M (lastTwice v) ≡ bearable M v
+bearable-twice M v =
+    same-test (bearable M (lastTwice v)) (bearable M v)
     (λ t. bearable-all M v
-    (λ i h. let k = bearable-at M (kept v) t i (omega (arith, length-kept v)) in
-    omega (arith, total-kept v i (omega arith), total-kept v (suc i) h)))
-    (λ t. bearable-all M (kept v) (λ i h. each t i h (ltb i (length v)) refl))
+    (λ i h. let k = bearable-at M (lastTwice v) t i (omega (arith, length-twice v)) in
+    omega (arith, total-twice v i (omega arith), total-twice v (suc i) h)))
+    (λ t. bearable-all M (lastTwice v) (λ i h. each t i h (ltb i (length v)) refl))
   where
-    each : T (bearable M v) → (i : ℕ) → i < length (kept v) → (b : Bool) → ltb i (length v) ≡ b →
-        (total (kept v) i ≤ total (kept v) (suc i)) × (total (kept v) (suc i) ≤ suc i * M)
+    each : T (bearable M v) → (i : ℕ) → i < length (lastTwice v) → (b : Bool) → ltb i (length v) ≡ b →
+        (total (lastTwice v) i ≤ total (lastTwice v) (suc i)) × (total (lastTwice v) (suc i) ≤ suc i * M)
     each t i h true e =
         let l : i < length v = ltb-true i (length v) e in
         let k = bearable-at M v t i l in
-        omega (arith, total-kept v i (omega arith), total-kept v (suc i) l)
+        omega (arith, total-twice v i (omega arith), total-twice v (suc i) l)
     each t i h false e =
-        let last : i ≡ length v = omega (arith, ltb-false i (length v) e, length-kept v) in
-        let before = total-kept v i (omega arith) in
-        let same = ap (λ k. total (kept v) (suc k)) last ∙ last-kept v ∙ ap (total v) (sym last) in
+        let last : i ≡ length v = omega (arith, ltb-false i (length v) e, length-twice v) in
+        let before = total-twice v i (omega arith) in
+        let same = ap (λ k. total (lastTwice v) (suc k)) last ∙ last-twice v ∙ ap (total v) (sym last) in
         omega (arith, bearable-upto M v t i (omega arith), suc-mul i M)
 
 -- after a slot at a speed of at least w(1) the last two totals are the same; a queue of one position is empty then, since w(0) is 0
@@ -66,8 +66,8 @@ run-last w s (suc i) l h =
     sym (total-run w s (suc i) (omega arith) (omega arith))
 
 -- after such a slot the queue is its positions before the last, the last total kept
-pub run-kept : (w : Queue) (s D : ℕ) → length w ≡ suc D → total w 1 ≤ s → run w s ≡ kept (queueIn D (run w s))
-run-kept w s D l h =
+pub run-twice : (w : Queue) (s D : ℕ) → length w ≡ suc D → total w 1 ≤ s → run w s ≡ lastTwice (queueIn D (run w s))
+run-twice w s D l h =
     let r = run w s in
     let long : length r ≡ suc D = length-run w s ∙ l in
     let before = queueIn D r in
@@ -78,7 +78,7 @@ run-kept w s D l h =
 -- after such a slot the queue is bearable exactly where its positions before the last are a bearable queue
 pub run-bearable : (M : ℕ) (w : Queue) (s D : ℕ) → length w ≡ suc D → total w 1 ≤ s →
     bearable M (run w s) ≡ bearable M (queueIn D (run w s))
-run-bearable M w s D l h = ap (bearable M) (run-kept w s D l h) ∙ bearable-kept M (queueIn D (run w s))
+run-bearable M w s D l h = ap (bearable M) (run-twice w s D l h) ∙ bearable-twice M (queueIn D (run w s))
 
 -- a queue that is not bearable is bearable after no arrival
 pub arrive-not-bearable : (M : ℕ) (w : Queue) (c d : ℕ) → NeverFalls w → T (bearable M (arrive w c d)) → T (bearable M w)

@@ -9,5 +9,5 @@ abbrev pub Small : Queue → Type 0
 Small w = (u : ℕ) → total w u ≤ 48
 
 -- a queue with its last total standing once more: after a slot at a speed of at least w(1), w(D) is w(D-1)
-abbrev pub kept : Queue → Queue
-kept v = v ++ (total v (length v) ∷ [])
+abbrev pub lastTwice : Queue → Queue
+lastTwice v = v ++ (total v (length v) ∷ [])

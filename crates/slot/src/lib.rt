@@ -1,11 +1,11 @@
 // One slot of a queue, as the planner and the stepper handle it, in six places of which the first D are used: the queue after the slot, the
-// queue with an arrival, and whether a queue is bearable.
+// queue with an arrival, both at once, and whether a queue is bearable.
 //
 // `largest` is the largest speed M, `bound` the deadline bound D. Every function here is internal: its callers have tested the sheet, so
 // that M is from 1 to 8 and D at most 6.
 ghost use mathlib.Core.Path.{_≡_};
 ghost use Prim.Native.Nat.{_+_, _-_, _≤_, _<_};
-ghost use Rattle.model.specs.Queue.{total, queueIn, placesOf, bearableAt, bearable, unusedZero, bearableIn, run, arrive};
+ghost use Rattle.model.specs.Queue.{total, queueIn, placesOf, bearableAt, bearable, unusedZero, bearableIn, run, arrive, oneSlot};
 ghost use Rattle.slot.specs.Slot.{Small};
 
 // w(u); w(0), the work that should be done by now, is 0.
@@ -87,6 +87,15 @@ pub fn arrive(bound: usize, queue: [u32; 6], size: u32, deadline: u32) -> [u32; 
     ]
 }
 
+// The queue after a slot at this speed and the arrival of a job.
+pub fn one_slot(bound: usize, queue: [u32; 6], speed: u32, size: u32, deadline: u32) -> [u32; 6]
+    requires { ⌜ (bound ≤ 6) × (size ≤ 255) × Small (queueIn bound queue) ⌝ }
+    ensures { λ r. ⌜ r ≡ placesOf (oneSlot (queueIn bound queue) speed size deadline) ⌝ }
+{
+    let left = after(bound, queue, speed);
+    arrive(bound, left, size, deadline)
+}
+
 // Whether w(u+1) is no less than w(u) and at most u+1 times the largest speed.
 fn bearable_at(largest: u32, queue: [u32; 6], u: usize) -> bool
     requires { ⌜ (largest ≤ 8) × (u < 6) ⌝ }
@@ -100,7 +109,7 @@ fn bearable_at(largest: u32, queue: [u32; 6], u: usize) -> bool
 }
 
 // Whether what stands in the first places is a bearable queue.
-pub fn finishable(largest: u32, bound: usize, queue: [u32; 6]) -> bool
+pub fn bearable(largest: u32, bound: usize, queue: [u32; 6]) -> bool
     requires { ⌜ (largest ≤ 8) × (bound ≤ 6) ⌝ }
     ensures { λ r. ⌜ r ≡ bearable largest (queueIn bound queue) ⌝ }
 {
@@ -130,11 +139,11 @@ fn unused_zero(bound: usize, queue: [u32; 6]) -> bool
 }
 
 // Whether what stands in the six places is a bearable queue, the unused places zero.
-pub fn bearable(largest: u32, bound: usize, queue: [u32; 6]) -> bool
+pub fn bearable_in(largest: u32, bound: usize, queue: [u32; 6]) -> bool
     requires { ⌜ (largest ≤ 8) × (bound ≤ 6) ⌝ }
     ensures { λ r. ⌜ r ≡ bearableIn largest bound queue ⌝ }
 {
-    if !finishable(largest, bound, queue) {
+    if !bearable(largest, bound, queue) {
         return false;
     }
     unused_zero(bound, queue)

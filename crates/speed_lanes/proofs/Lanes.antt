@@ -18,7 +18,7 @@ use Rattle.model.proofs.Tests.{and-left, and-right, and-both, same-test, holds-
 use Rattle.queues.specs.Blocks.{Alike}
 use Rattle.queues.proofs.Blocks.{number-last, bearable-with}
 use Rattle.slot.proofs.Places.{total-in, positions-in}
-use Rattle.rows.proofs.Measures.{one-fewer}
+use Rattle.sheets.proofs.Measures.{one-fewer}
 use Rattle.speed_lanes.specs.Lanes.{afterOf, leadsOn, laneOf, Lane}
 
 -- the queue after a slot

@@ -3,13 +3,13 @@
 // after a slot at it.
 use model::Sheet;
 use queues::number;
-use rows::Sizes;
 use rows::first_queue;
 use rows::line_at;
 use rows::put_head;
 use rows::put_pair;
+use sheets::Sizes;
 use slot::after;
-use slot::finishable;
+use slot::bearable;
 ghost use mathlib.Core.Path.{_≡_};
 ghost use Prim.Native.Nat.{_+_, _≤_, _<_};
 ghost use lib.ListN.{length};
@@ -17,8 +17,8 @@ ghost use Rattle.model.specs.Counted.{counted, speedAt, energyAt};
 ghost use Rattle.model.specs.Queue.{queueIn};
 ghost use Rattle.model.specs.Refusal.{fieldsRefusal};
 ghost use Rattle.counts.specs.Counts.{HoldsCounts};
-ghost use Rattle.value.specs.Fills.{Fills, numberAt};
-ghost use Rattle.rows.specs.Sizes.{Measured};
+ghost use Rattle.buffers.specs.Fills.{Fills, numberAt};
+ghost use Rattle.sheets.specs.Sizes.{Measured};
 ghost use Rattle.rows.specs.Tables.{lineAt, Columns, LinesPut};
 ghost use Rattle.speed_lanes.specs.Lanes.{leadsOn, slowestIn, laneOf, speedLine, SpeedTable};
 
@@ -31,7 +31,7 @@ fn leads_on(sizes: Sizes, queue: [u32; 6], speed: u32) -> bool
         return false;
     }
     let left = after(sizes.bound, queue, speed);
-    finishable(sizes.largest, sizes.bound - 1, left)
+    bearable(sizes.largest, sizes.bound - 1, left)
 }
 
 // The place of the slowest speed that leads on; the count of speeds where none does.

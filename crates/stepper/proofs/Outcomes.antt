@@ -12,6 +12,9 @@ use Rattle.model.specs.Counted.{Counted, energyOf, M}
 use Rattle.model.specs.Queue.{queueIn, placesOf, bearable, oneSlot}
 use Rattle.model.specs.Tests.{_then_}
 use Rattle.model.specs.Stepper as model
+use Rattle.sheets.specs.Sizes.{Sized}
+use Rattle.sheets.specs.declared.sizes.Sizes.{Sizes}
+use Rattle.sheets.proofs.Measures.{sized-same}
 use Rattle.stepper.specs.Calls.{stateOf, IsStepped, IsTold}
 use Rattle.stepper.specs.Parts.{movedOrRefused}
 use Rattle.stepper.specs.declared.state.State.{State}
@@ -56,11 +59,11 @@ module _ (s : Counted) (x : model.State) (speed size deadline : ℕ) where
   moved-by-number e = λ i. record { number = e i; state = cond (eqb (e i) 0) next x }
 
   -- what the code asked of the queue that it worked out is what 17 asks
-  pub asked-of-next : {queue : List ℕ} {largest : ℕ} {answer : Bool} →
-      queue ≡ placesOf (oneSlot (queueIn (s .bound) (x .queue)) speed size deadline) → largest ≡ M s →
-      answer ≡ bearable largest (queueIn (s .bound) queue) → answer ≡ bearable (M s) (model.queueOf s next)
-  asked-of-next {queue = queue} queue-is largest-is e =
-      e ∙ ap (λ (m : ℕ). bearable m (queueIn (s .bound) queue)) largest-is ∙
+  pub asked-of-next : {sizes : Sizes} → Sized s sizes → {queue : List ℕ} {answer : Bool} →
+      queue ≡ placesOf (oneSlot (queueIn (s .bound) (x .queue)) speed size deadline) →
+      answer ≡ bearable (sizes .largest) (queueIn (sizes .bound) queue) → answer ≡ bearable (M s) (model.queueOf s next)
+  asked-of-next sized {queue = queue} queue-is e =
+      e ∙ sized-same sized (λ m D. bearable m (queueIn D queue)) ∙
       ap (λ (l : List ℕ). bearable (M s) (queueIn (s .bound) l))
       (queue-is ∙ sym (ap (λ (y : model.State). y .queue) (moved-by s x speed size deadline)))
 

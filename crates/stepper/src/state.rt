@@ -1,17 +1,19 @@
 // The state and its three calls: `start`, `speed` and `advance`.
 use crate::step::moved;
 use crate::tests::byte_right;
-use crate::tests::queue_right;
 use crate::tests::state_right;
 use counts::table;
+use layout::byte_of_queue;
+use layout::row_refusal;
 use lookups::is_entry;
-use lookups::plan_byte;
 use model::Sheet;
-use sheets::row_refusal;
 use sheets::sheet_refusal;
+use sheets::sizes_of;
+use slot::bearable_in;
 ghost use mathlib.Core.Path.{_≡_};
 ghost use Rattle.model.specs.Counted.{counted};
 ghost use Rattle.model.specs.Stepper.{zeroState, start, speed, advance};
+ghost use Rattle.counts.specs.Counts.{HoldsCounts};
 ghost use Rattle.stepper.specs.Calls.{stateOf, IsStepped, IsTold};
 
 // A queue in its six places, the number of the slot, and the energy spent.
@@ -47,13 +49,14 @@ impl State {
                 state: zero_state(),
             };
         }
-        if !queue_right(sheet, self) {
+        let sizes = sizes_of(&counts, sheet);
+        let queue = self.queue;
+        if !bearable_in(sizes.largest, sizes.bound, queue) {
             return Stepped {
                 number: 13,
                 state: zero_state(),
             };
         }
-        let queue = self.queue;
         Stepped {
             number: 0,
             state: State {
@@ -69,32 +72,15 @@ impl State {
         ensures { λ r. ⌜ IsTold (speed (counted sheet) (now (plan .entry)) (stateOf self)) (r .number) (r .speed) ⌝ }
     {
         let counts = table();
-        let number = row_refusal(&counts, sheet, plan.len());
-        if number != 0 {
-            return refused(number);
-        }
-        if !state_right(sheet, self) {
-            return refused(13);
-        }
-        if self.slot == sheet.horizon {
-            return refused(14);
-        }
-        let queue = self.queue;
-        let byte = plan_byte(&counts, sheet, plan, self.slot, queue);
-        if !byte_right(sheet, self, byte) {
-            return refused(16);
-        }
-        Told {
-            number: 0,
-            speed: byte,
-        }
+        speed_of(&counts, sheet, plan, self)
     }
 
     // Runs the slot at the plan's speed and then takes the arrival. A refused advance hands back the state that it got.
     pub fn advance(self, sheet: Sheet, plan: &[u8], size: u32, deadline: u32) -> Stepped
         ensures { λ r. ⌜ IsStepped (advance (counted sheet) (now (plan .entry)) (stateOf self) size deadline) (r .number) (r .state) ⌝ }
     {
-        let told = self.speed(sheet, plan);
+        let counts = table();
+        let told = speed_of(&counts, sheet, plan, self);
         if told.number != 0 {
             return Stepped {
                 number: told.number,
@@ -107,7 +93,8 @@ impl State {
                 state: self,
             };
         }
-        moved(sheet, self, told.speed, size, deadline)
+        let sizes = sizes_of(&counts, sheet);
+        moved(sheet, sizes, self, told.speed, size, deadline)
     }
 }
 
@@ -119,6 +106,33 @@ fn zero_state() -> State
         queue: [0; 6],
         slot: 0,
         energy: 0,
+    }
+}
+
+// The speed of the slot that begins, behind the tests that both calls make of it: 4 to 10, 11, 13, 14 and 16.
+fn speed_of(counts: &[u32; 2352], sheet: Sheet, plan: &[u8], state: State) -> Told
+    requires { ⌜ HoldsCounts (now counts) ⌝ }
+    ensures { λ r. ⌜ IsTold (speed (counted sheet) (now (plan .entry)) (stateOf state)) (r .number) (r .speed) ⌝ }
+{
+    let number = row_refusal(counts, sheet, plan.len());
+    if number != 0 {
+        return refused(number);
+    }
+    let sizes = sizes_of(counts, sheet);
+    if !state_right(sheet, sizes, state) {
+        return refused(13);
+    }
+    if state.slot == sheet.horizon {
+        return refused(14);
+    }
+    let queue = state.queue;
+    let byte = byte_of_queue(counts, sizes, plan, state.slot, queue);
+    if !byte_right(sheet, state, byte) {
+        return refused(16);
+    }
+    Told {
+        number: 0,
+        speed: byte,
     }
 }
 

@@ -1,37 +1,44 @@
 // What a slot does to a state.
 use crate::state::State;
 use crate::state::Stepped;
-use limits::greatest_of;
 use lookups::energy_of;
-use lookups::next_queue;
 use model::Sheet;
-use slot::finishable;
+use sheets::Sizes;
+use slot::bearable;
+use slot::one_slot;
 ghost use mathlib.Core.Path.{_≡_};
 ghost use Prim.Native.Nat.{_≤_};
 ghost use lib.Dec.{T};
 ghost use Rattle.model.specs.Counted.{counted, onSheet};
 ghost use Rattle.model.specs.Refusal.{fieldsRefusal};
 ghost use Rattle.model.specs.Stepper.{stateRight};
+ghost use Rattle.sheets.specs.Sizes.{Sized};
 ghost use Rattle.stepper.specs.Calls.{stateOf, IsStepped};
 ghost use Rattle.stepper.specs.Parts.{movedOrRefused};
 
-// What 18 holds the energy spent to.
+// The most energy that a state can hold: 18 refuses what would pass it.
 const MOST_ENERGY: u32 = 4294967295;
 
 // The state after a slot at this speed and an arrival: 17 and 18, which hand back the state as it was.
-pub fn moved(sheet: Sheet, state: State, speed: u32, size: u32, deadline: u32) -> Stepped
-    requires { ⌜ (fieldsRefusal (counted sheet) ≡ 0) × T (stateRight (counted sheet) (stateOf state)) ×
+pub fn moved(
+    sheet: Sheet,
+    sizes: Sizes,
+    state: State,
+    speed: u32,
+    size: u32,
+    deadline: u32,
+) -> Stepped
+    requires { ⌜ (fieldsRefusal (counted sheet) ≡ 0) × Sized (counted sheet) sizes × T (stateRight (counted sheet) (stateOf state)) ×
         T (onSheet (counted sheet) speed) × (size ≤ 255) ⌝ }
     ensures { λ r. ⌜ IsStepped (movedOrRefused (counted sheet) (stateOf state) speed size deadline) (r .number) (r .state) ⌝ }
 {
     let waiting = state.queue;
-    let queue = next_queue(sheet, waiting, speed, size, deadline);
+    let queue = one_slot(sizes.bound, waiting, speed, size, deadline);
     let slot = state.slot;
     let mut next = state;
     next.queue = queue;
     next.slot = slot + 1;
-    let greatest = greatest_of(sheet);
-    if !finishable(greatest.speed, sheet.bound as usize, queue) {
+    if !bearable(sizes.largest, sizes.bound, queue) {
         return Stepped { number: 17, state };
     }
     let spent = energy_of(sheet, speed);

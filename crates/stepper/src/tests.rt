@@ -1,38 +1,29 @@
 // What the calls test, each test with its number: 13 of a state, 16 of a plan byte.
 use crate::state::State;
-use limits::greatest_of;
 use lookups::place_of;
 use model::Sheet;
-use slot::bearable;
+use sheets::Sizes;
+use slot::bearable_in;
 ghost use mathlib.Core.Path.{_≡_};
 ghost use Rattle.model.specs.Counted.{counted};
 ghost use Rattle.model.specs.Refusal.{fieldsRefusal};
-ghost use Rattle.model.specs.Stepper.{queueRight, stateRight, byteRight};
+ghost use Rattle.model.specs.Stepper.{stateRight, byteRight};
+ghost use Rattle.sheets.specs.Sizes.{Sized};
 ghost use Rattle.stepper.specs.Calls.{stateOf};
 
-// What 13 says of the queue: it is bearable, and its unused positions are zero.
-pub fn queue_right(sheet: Sheet, state: State) -> bool
-    requires { ⌜ fieldsRefusal (counted sheet) ≡ 0 ⌝ }
-    ensures { λ r. ⌜ r ≡ queueRight (counted sheet) (stateOf state) ⌝ }
-{
-    let greatest = greatest_of(sheet);
-    let queue = state.queue;
-    bearable(greatest.speed, sheet.bound as usize, queue)
-}
-
-// 13 whole: the queue, the slot and the energy.
-pub fn state_right(sheet: Sheet, state: State) -> bool
-    requires { ⌜ fieldsRefusal (counted sheet) ≡ 0 ⌝ }
+// 13: the queue is bearable and its unused positions are zero; the slot and the energy are in range.
+pub fn state_right(sheet: Sheet, sizes: Sizes, state: State) -> bool
+    requires { ⌜ (fieldsRefusal (counted sheet) ≡ 0) × Sized (counted sheet) sizes ⌝ }
     ensures { λ r. ⌜ r ≡ stateRight (counted sheet) (stateOf state) ⌝ }
 {
-    if !queue_right(sheet, state) {
+    let queue = state.queue;
+    if !bearable_in(sizes.largest, sizes.bound, queue) {
         return false;
     }
     if sheet.horizon < state.slot {
         return false;
     }
-    let greatest = greatest_of(sheet);
-    let most = state.slot * greatest.energy;
+    let most = state.slot * sizes.energy;
     let energy = state.energy;
     energy <= most
 }

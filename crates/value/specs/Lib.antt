@@ -1,3 +1,2 @@
-pub mod Width
+pub mod Values
 pub mod Narrow
-pub mod Fills

@@ -1,11 +1,11 @@
--- The width of document 01: one place, none 2^64-1, every value below 2^63.
-use Prim.Native.Nat.{ℕ, _-_, _^_}
+-- The width of this crate: document 01's.
+use Prim.Native.Nat.{ℕ}
 use mathlib.Core.Option.{Option}
-use Rattle.value.specs.Width.{Width, decode}
+use Rattle.model.specs.Width.{Width, narrow, decode}
 use Rattle.value.specs.declared.Value.{Value}
 
 abbrev pub width : Width
-width = record { places = 1; noneCode = 2 ^ 64 - 1; limit = 2 ^ 63 }
+width = narrow
 
 -- what a value in the code says
 abbrev pub valueOf : Value → Option ℕ

@@ -1,5 +1,5 @@
 // One value: a whole number or none, in the code and at a place of a lent buffer. The planner works with values through these functions
-// alone, and what they promise is said over a width (specs/Width.antt), so that a planner of wider values differs from this one in its
+// alone, and what they promise is said over a width (model/specs/Width.antt), so that a planner of wider values differs from this one in its
 // `use` lines.
 ghost use mathlib.Core.Path.{_≡_};
 ghost use mathlib.Core.Bool.{false};
@@ -8,9 +8,10 @@ ghost use Prim.Native.Nat.{suc, _*_, _≤_};
 ghost use lib.Dec.{leb};
 ghost use lib.ListN.{length};
 ghost use Rattle.process.specs.Recursion.{plus, times};
-ghost use Rattle.value.specs.Width.{readAt, Below, missing, lessThan};
+ghost use Rattle.model.specs.Width.{valueIn};
+ghost use Rattle.buffers.specs.Fills.{Fills};
 ghost use Rattle.value.specs.Narrow.{width, valueOf};
-ghost use Rattle.value.specs.Fills.{Fills};
+ghost use Rattle.value.specs.Values.{Fits, missing, lessThan};
 
 // The number that stands for none.
 const NONE: u64 = 18446744073709551615;
@@ -49,10 +50,10 @@ pub fn number(value: Value) -> u64
     value.number
 }
 
-// The first value and so many times another, none where either is. It asks that the sum stays below the limit, so that nothing wraps; a
+// The first value and so many times another, none where either is. It asks that the sum passes no limit, so that nothing wraps; a
 // product is made only where both are there.
 pub fn add(first: Value, by: u32, value: Value) -> Value
-    requires { ⌜ Below (width .limit) (plus (valueOf first) (times by (valueOf value))) ⌝ }
+    requires { ⌜ Fits width (plus (valueOf first) (times by (valueOf value))) ⌝ }
     ensures { λ r. ⌜ valueOf r ≡ plus (valueOf first) (times by (valueOf value)) ⌝ }
 {
     if is_none(first) {
@@ -83,7 +84,7 @@ pub fn fit(count: usize, room: usize) -> bool
 // The value at a place.
 pub fn load(buffer: &[u64], place: usize) -> Value
     requires { ⌜ suc place * width .places ≤ length (now buffer) ⌝ }
-    ensures { λ r. ⌜ valueOf r ≡ readAt width (now (buffer .entry)) place ⌝ }
+    ensures { λ r. ⌜ valueOf r ≡ valueIn width (now (buffer .entry)) place ⌝ }
 {
     Value {
         number: buffer[place],
@@ -93,7 +94,7 @@ pub fn load(buffer: &[u64], place: usize) -> Value
 // A value put at a place.
 pub fn store(buffer: &mut [u64], place: usize, value: Value)
     requires { ⌜ suc place * width .places ≤ length (now buffer) ⌝ }
-    ensures { λ r. ⌜ Fills (width .places) (readAt width) (λ i. valueOf value) place 1 (now (buffer .entry)) (now (buffer .exit)) ⌝ }
+    ensures { λ r. ⌜ Fills (width .places) (valueIn width) (λ i. valueOf value) place 1 (now (buffer .entry)) (now (buffer .exit)) ⌝ }
 {
     buffer[place] = value.number;
 }

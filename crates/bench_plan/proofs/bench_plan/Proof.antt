@@ -28,7 +28,7 @@ refused-read values plan {bytes} {number} is some =
 
     go : (n : ℕ) → (n ≡ 0 → ⊥) → LeavesRead n (counted (read bytes .sheet)) values plan values plan (none-with n)
     go zero h = absurd (h refl)
-    go (suc n) h = record { values-kept = refl; plan-kept = refl; answer = refl }
+    go (suc n) h = record { values-same = refl; plan-same = refl; answer = refl }
 
 -- they are read, and the sheet is planned
 planned-read : {bytes values₀ plan₀ values plan : List ℕ} {number : ℕ} {sheet : Sheet} (answer : PlanAnswer) → IsRead bytes number sheet →

@@ -7,7 +7,7 @@ use borrow.Author.Needs.{needs}
 use denote.Ref.{now}
 use Rattle.laws.proofs.Readers.{fields-read}
 use Rattle.model.specs.Reading.{readSpeedTable, readJobTable, readCounted}
-use Rattle.model.specs.Refusal.{boundRight, horizonRight, fieldsRefusal, limitsRefusal, N}
+use Rattle.model.specs.Refusal.{boundRight, horizonRight, fieldsRefusal, limitsRefusal, N, valueLimit}
 use Rattle.model.specs.Counted.{Counted, sheetOf, counted, inMemory}
 use Rattle.model.specs.declared.Speed.{Speed}
 use Rattle.ranges.proofs.Answers.{passed-by}
@@ -321,7 +321,7 @@ returns-8 c =
     let w = c .before in
     let j = with-jobs w in
     read-judged (bytes (start j)) (job-table j .next) (bound (start j)) (horizon (with-horizon j)) (speeds j) (jobs-given j .0) (jobs-read j)
-    (w .before .if5 .left) (c .judged .ensures .0 ∙ ap (λ (s : Counted). limitsRefusal (N s) s) (counts-right w)) (memory-right w)
+    (w .before .if5 .left) (c .judged .ensures .0 ∙ ap (λ (s : Counted). limitsRefusal valueLimit (N s) s) (counts-right w)) (memory-right w)
     (c .judged .ensures .1)
 
 pub read-spec : {M : Type 1} → statement M

@@ -1,30 +1,67 @@
--- `bearable` meets its contract: the queue is asked first, and where it is bearable the unused places decide.
-use mathlib.Core.Path.{sym, _∙_}
-use mathlib.Core.Bool.{true, false}
-use borrow.Author.Needs.{needs}
-use borrow.Author.Tests.{not-true, not-false}
-use Rattle.slot.proofs.Places.{bearable-unused}
+-- `bearable` meets its contract. The loop's invariant: every place passed has met the test. The measure is what is left of the bound.
+use Prim.Native.Nat.{_≤_, _-_}
+use mathlib.Core.Path.{_≡_, refl, sym, ap, _∙_}
+use mathlib.Core.Bool.{true}
+use native.Mathlib.Omega.{arith}
+use Rattle.model.specs.Tests.{everywhere}
+use Rattle.model.specs.Queue.{bearableAt}
+use Rattle.slot.proofs.Places.{bearable-in, bearable-fails, bearable-more}
 use Rattle.slot.proofs.bearable.Statement.{statement}
 use Rattle.slot.proofs.bearable.Tie as tie
 
-finishable-requires : tie.Need-finishable-requires
-finishable-requires c κs = search needs
+abbrev Inv-loop : tie.InvT-loop
+Inv-loop largest bound queue u₀ u = (u ≤ bound) × (everywhere (bearableAt largest queue) u ≡ true)
 
-returns : tie.Need-returns
+abbrev μ-loop : tie.MeasureT-loop
+μ-loop largest bound queue u₀ u = bound - u
+
+loop-holds : tie.Need-loop-holds Inv-loop μ-loop
+unfolding everywhere
+loop-holds c = (omega arith, refl)
+
+bearable-at-requires : tie.Need-bearable-at-requires Inv-loop μ-loop
+bearable-at-requires c κs = omega arith
+
+returns : tie.Need-returns Inv-loop μ-loop
 returns c =
-    let a = c .before .before .args in
-    let f = c .before .finishable in
-    sym (bearable-unused (a .largest) (a .bound) (a .queue) false (sym (f .ensures) ∙ not-true (f .result) (c .if1 .taken)))
+    let a = c .before .before .before .before .args in
+    let asked = c .before .bearable-at in
+    sym
+    (bearable-fails (a .largest) (a .bound) (a .queue) (c .before .before .before .loop .u) (asked .result) (omega arith)
+    (c .before .before .loop-test .taken) (asked .ensures) (c .if1 .taken))
 
-unused-zero-requires : tie.Need-unused-zero-requires
-unused-zero-requires c κs = search needs
+add-u : tie.Need-add-u Inv-loop μ-loop
+add-u c = omega arith
 
-returns-2 : tie.Need-returns-2
+loop-less : tie.Need-loop-less Inv-loop μ-loop
+loop-less c = omega arith
+
+loop-again : tie.Need-loop-again Inv-loop μ-loop
+loop-again c =
+    let a = c .before .before .before .before .args in
+    let l = c .before .before .before .loop in
+    let asked = c .before .bearable-at in
+    (omega arith, bearable-more (a .largest) (a .queue) (l .u) (asked .result) (l .inv .1) (asked .ensures) (c .if1 .left))
+
+returns-2 : tie.Need-returns-2 Inv-loop μ-loop
 returns-2 c =
-    let a = c .before .before .before .args in
-    let f = c .before .before .finishable in
-    c .unused-zero .ensures ∙
-    sym (bearable-unused (a .largest) (a .bound) (a .queue) true (sym (f .ensures) ∙ not-false (f .result) (c .before .if1 .left)))
+    let a = c .before .before .args in
+    let l = c .before .loop in
+    let all : a .bound ≡ l .u = omega arith in
+    sym
+    (bearable-in (a .largest) (a .bound) (a .queue) (omega arith) ∙ ap (everywhere (bearableAt (a .largest) (a .queue))) all ∙
+    l .inv .1)
 
 pub bearable-spec : {M : Type 1} → statement M
-bearable-spec = tie.close (tie.spec finishable-requires returns unused-zero-requires returns-2)
+bearable-spec =
+    tie.close
+    (tie.spec
+    Inv-loop
+    μ-loop
+    loop-holds
+    bearable-at-requires
+    returns
+    add-u
+    loop-less
+    loop-again
+    returns-2)

@@ -1,10 +1,10 @@
--- `add` meets its contract: none where either is none, else the sum, which fits since it stays below the limit.
+-- `add` meets its contract: none where either is none, else the sum, which fits since it is within the limit.
 use mathlib.Core.Option.{some}
 use mathlib.Core.Path.{_≡_, sym, _∙_}
 use native.Mathlib.Omega.{arith}
 use borrow.Author.Needs.{needs}
 use Rattle.value.specs.Narrow.{width, valueOf}
-use Rattle.value.proofs.Decoding.{missing-none, decode-some, sum-below, sum-is, sum-first-none, sum-other-none}
+use Rattle.value.proofs.Decoding.{missing-none, decode-some, sum-within, sum-is, sum-first-none, sum-other-none}
 use Rattle.value.proofs.add.Statement.{statement}
 use Rattle.value.proofs.add.Tie as tie
 
@@ -40,7 +40,7 @@ mul-t7 c =
     let a = start .args in
     omega (
       arith,
-      sum-below width (a .first .number) (a .by) (a .value .number) (first-there (c .before)) (other-there (c .before)) (start .pre),
+      sum-within width (a .first .number) (a .by) (a .value .number) (first-there (c .before)) (other-there (c .before)) (start .pre),
     )
 
 add-t8 : tie.Need-add-t8
@@ -49,7 +49,7 @@ add-t8 c =
     let a = start .args in
     omega (
       arith,
-      sum-below width (a .first .number) (a .by) (a .value .number) (first-there (c .before .before)) (other-there (c .before .before))
+      sum-within width (a .first .number) (a .by) (a .value .number) (first-there (c .before .before)) (other-there (c .before .before))
           (start .pre),
     )
 

@@ -30,8 +30,7 @@ same-length c = search needs
 
 returns : tie.Need-returns
 returns c =
-    let two = c .before .before .before .before .before .before in
-    rw append-assoc at (laid-then (two .put-two .ensures) (c .before .before .put .ensures) (room (two .before .before .before)))
+    rw append-assoc at (laid-then (c .before .before .before .before .before .before .put-two .ensures) (c .before .before .put .ensures))
 
 pub put-job-spec : {M : Type 1} → statement M
 put-job-spec = tie.close (tie.spec put-two-requires put-requires same-length returns)

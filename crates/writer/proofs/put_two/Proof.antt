@@ -20,9 +20,7 @@ same-length : tie.Need-same-length
 same-length c = search needs
 
 returns : tie.Need-returns
-returns c =
-    let first = c .before .before .before .before .before .before in
-    laid-then (first .put .ensures) (c .before .before .put2 .ensures) (first .before .before .before .pre .2)
+returns c = laid-then (c .before .before .before .before .before .before .put .ensures) (c .before .before .put2 .ensures)
 
 pub put-two-spec : {M : Type 1} → statement M
 put-two-spec = tie.close (tie.spec put-requires put-requires-2 same-length returns)

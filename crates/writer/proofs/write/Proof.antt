@@ -7,7 +7,7 @@ use lib.ListN.{length}
 use lib.Seq.{length-take-le}
 use Rattle.model.specs.Bytes.{sheetBytes}
 use Rattle.model.specs.Counted.{Counted, counted}
-use Rattle.model.specs.Refusal.{sheetRefusal}
+use Rattle.model.specs.Refusal.{sheetRefusal, valueLimit}
 use Rattle.model.proofs.Refusal.{fields-right}
 use Rattle.buffers.proofs.Laid.{laid-next, laid-length}
 use Rattle.writer.proofs.Lengths.{sheet-upto}
@@ -20,12 +20,12 @@ abbrev sheet : tie.Else1 → Counted
 sheet c = counted (c .before .before .before .before .before .args .sheet)
 
 -- it is not refused
-accepted : (c : tie.Else1) → sheetRefusal (sheet c) ≡ 0
+accepted : (c : tie.Else1) → sheetRefusal valueLimit (sheet c) ≡ 0
 accepted c = sym (c .before .sheet-refusal .ensures) ∙ c .if1 .left
 
 -- .. and its bytes have room in the array
 few : (c : tie.Else1) → length (sheetBytes (sheet c)) ≤ 354
-few c = sheet-upto _ (fields-right _ (accepted c))
+few c = sheet-upto _ (fields-right valueLimit _ (accepted c))
 
 table-requires : tie.Need-table-requires
 table-requires c κs = search needs
@@ -42,7 +42,7 @@ slice-aggregate-put-sheet : tie.Need-slice-aggregate-put-sheet
 slice-aggregate-put-sheet c = search needs
 
 put-sheet-requires : tie.Need-put-sheet-requires
-put-sheet-requires c κs = (fields-right _ (accepted (c .before)), few (c .before))
+put-sheet-requires c κs = (fields-right valueLimit _ (accepted (c .before)), few (c .before))
 
 returns-2 : tie.Need-returns-2
 returns-2 c =
@@ -53,7 +53,7 @@ array-share-prefix-bytes : tie.Need-array-share-prefix-bytes
 array-share-prefix-bytes c =
     let put = c .before .before .before in
     let room = few (put .before .before) in
-    omega (arith, laid-next (put .put-sheet .ensures), laid-length (put .put-sheet .ensures) (omega (arith, room)), room)
+    omega (arith, laid-next (put .put-sheet .ensures), laid-length (put .put-sheet .ensures), room)
 
 slice-aggregate-put-text : tie.Need-slice-aggregate-put-text
 slice-aggregate-put-text c = sym (length-take-le _ _ (array-share-prefix-bytes (c .before)))
@@ -68,7 +68,8 @@ returns-3 : tie.Need-returns-3
 returns-3 c =
     let fits = c .before .before .before .before .before in
     let put = fits .before .before in
-    write-done _ (accepted (put .before .before)) (put .put-sheet .ensures) (fits .if2 .left) (c .before .before .put-text .ensures)
+    write-done _ (accepted (put .before .before)) (put .put-sheet .ensures) (few (put .before .before)) (fits .if2 .left)
+    (c .before .before .put-text .ensures)
 
 pub write-spec : {M : Type 1} → statement M
 write-spec =

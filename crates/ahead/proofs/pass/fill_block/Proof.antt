@@ -8,12 +8,12 @@ use lib.ListN.{length, getD}
 use Rattle.model.specs.Counted.{counted}
 use Rattle.queues.specs.Blocks.{startOf, lowestOf, InBlock}
 use Rattle.queues.proofs.Blocks.{risen-none, risen-more}
-use Rattle.value.specs.Fills.{FillsWhere}
+use Rattle.buffers.specs.Fills.{FillsWhere}
 use Rattle.value.specs.Narrow.{width}
-use Rattle.value.specs.Width.{readAt}
-use Rattle.value.proofs.Filling.{fewer-fit}
-use Rattle.rows.proofs.Measures.{after-room, blocks-few, most-total}
-use Rattle.rows.specs.declared.sizes.Sizes.{Sizes}
+use Rattle.model.specs.Width.{valueIn}
+use Rattle.buffers.proofs.Filling.{fewer-fit}
+use Rattle.rows.proofs.Room.{after-room, blocks-few, most-total}
+use Rattle.sheets.specs.declared.sizes.Sizes.{Sizes}
 use Rattle.ahead.specs.Pass.{Within, sumLeft, riseOf}
 use Rattle.ahead.proofs.Passing.{in-range, most-before, block-low, lowest-high, line-room, line-start, line-lowest, number-low, risen-small, ahead-none, ahead-more}
 use Rattle.ahead.proofs.pass.fill_block.Statement.{statement}
@@ -23,7 +23,7 @@ abbrev Inv-loop : tie.InvT-loop
 Inv-loop sheet sizes lanes next values block ahead₀ at most lowest first far₀ steps₀ ahead far steps =
     (lowest ≡ lowestOf (sizes .largest) (pred (sizes .bound)) block) × (first ≡ startOf (sizes .largest) (pred (sizes .bound)) block) ×
     (lowest + steps ≤ suc (pred (sizes .bound) * sizes .largest)) × (far ≡ riseOf sizes block steps) ×
-    FillsWhere (width .places) (readAt width) (λ i. sumLeft width (counted sheet) sizes next values i (sheet .«job_count»)) 0
+    FillsWhere (width .places) (valueIn width) (λ i. sumLeft width (counted sheet) sizes next values i (sheet .«job_count»)) 0
     (InBlock (sizes .largest) (pred (sizes .bound)) block (lowestOf (sizes .largest) (pred (sizes .bound)) block + steps)) ahead₀ ahead
 
 abbrev μ-loop : tie.MeasureT-loop
@@ -224,7 +224,7 @@ returns c =
     let all : lowest + l .steps ≡ suc (pred (a .sizes .bound) * a .sizes .largest) =
     omega (arith, l .inv .0, l .inv .2, c .if1 .left, most-before (start .pre .0)) in
     subst
-    (λ (x : ℕ). FillsWhere (width .places) (readAt width)
+    (λ (x : ℕ). FillsWhere (width .places) (valueIn width)
     (λ i. sumLeft width (counted (a .sheet)) (a .sizes) (a .next) (a .values .now) i (a .sheet .«job_count»)) 0
     (InBlock (a .sizes .largest) (pred (a .sizes .bound)) (a .block) x) (a .ahead .now) (l .ahead))
     all (l .inv .4)

@@ -5,7 +5,7 @@ use native.Mathlib.Omega.{arith}
 use borrow.Author.Needs.{needs}
 use lib.ListN.{length, getD}
 use Rattle.model.specs.Counted.{counted}
-use Rattle.rows.proofs.Measures.{blocks-few}
+use Rattle.rows.proofs.Room.{blocks-few}
 use Rattle.entry_lanes.specs.Lanes.{firstAfter, stepsTo}
 use Rattle.ahead.proofs.Passing.{in-range, line-room, line-steps, sum-past}
 use Rattle.ahead.proofs.sums.sum_at.Statement.{statement}

@@ -8,7 +8,7 @@ use lib.ListN.{getD}
 use Rattle.process.specs.Recursion.{plus, times}
 use Rattle.model.specs.Counted.{counted}
 use Rattle.value.specs.Narrow.{width, valueOf}
-use Rattle.value.specs.Width.{Below}
+use Rattle.value.specs.Values.{Fits}
 use Rattle.value.proofs.Decoding.{missing-none}
 use Rattle.rows.specs.Rows.{valueInRow, afterWith}
 use Rattle.ahead.specs.Pass.{sumLeft, stepped}
@@ -85,7 +85,7 @@ add-requires c κs =
     let a = start .args in
     let inside = start .pre .1 .within in
     let low = c .before .before .before .before .if1 .taken in
-    subst (λ (r : Option ℕ). Below (width .limit) r) (sym (turn c))
+    subst (Fits width) (sym (turn c))
     (start .pre .0 .fits _ (l .loop .place + 1) (number-low (start .pre .0) (a .block) (inside .block-low) (a .steps) inside)
     (omega (arith, low)))
 

@@ -8,9 +8,9 @@ use lib.ListN.{length, getD}
 use Rattle.model.specs.Counted.{counted}
 use Rattle.model.specs.Queue.{numberOf}
 use Rattle.value.specs.Narrow.{width}
-use Rattle.value.specs.Width.{readAt}
-use Rattle.value.proofs.Filling.{fewer-fit}
-use Rattle.rows.proofs.Measures.{blocks-few}
+use Rattle.model.specs.Width.{valueIn}
+use Rattle.buffers.proofs.Filling.{fewer-fit}
+use Rattle.rows.proofs.Room.{blocks-few}
 use Rattle.rows.specs.Rows.{afterWith}
 use Rattle.entry_lanes.specs.Lanes.{joined}
 use Rattle.ahead.specs.Pass.{stepped}
@@ -118,7 +118,7 @@ returns c =
     let a = start .args in
     let on = told at in
     c .load .ensures ∙
-    ap (λ (n : ℕ). readAt width (a .values .now) (a .next + n)) (omega (arith, on)) ∙
+    ap (λ (n : ℕ). valueIn width (a .values .now) (a .next + n)) (omega (arith, on)) ∙
     sym (value-joined (start .pre .0) (a .block) (start .pre .1 .within .block-low) (a .steps) (start .pre .1 .within)
     (start .pre .1 .before-end) (a .place) (start .pre .2))
 

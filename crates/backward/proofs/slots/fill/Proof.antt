@@ -7,14 +7,15 @@ use Rattle.model.specs.Counted.{counted}
 use Rattle.model.proofs.Counted.{speeds-few}
 use Rattle.model.proofs.Refusal.{Accepted, accepted, fields-right}
 use Rattle.value.specs.Narrow.{width}
-use Rattle.rows.specs.Sizes.{Measured}
-use Rattle.rows.proofs.Measures.{measured, lines-room, entry-lines-room}
+use Rattle.sheets.specs.Sizes.{Measured}
+use Rattle.sheets.proofs.Measures.{measured}
+use Rattle.rows.proofs.Room.{lines-room, entry-lines-room}
 use Rattle.backward.proofs.Backward.{sizes-small, end-room, planned-none, planned-since}
 use Rattle.backward.proofs.slots.fill.Statement.{statement}
 use Rattle.backward.proofs.slots.fill.Tie as tie
 
 -- the sheet is accepted
-right : (c : tie.Start) → Accepted (counted (c .args .sheet))
+right : (c : tie.Start) → Accepted (width .limit) (counted (c .args .sheet))
 right c = accepted (counted (c .args .sheet)) (c .pre .0 .accepted)
 
 -- and its sizes are in range
@@ -29,7 +30,7 @@ fill-table-requires c κs =
     let start = c .before .before .before in (
       start .pre .0 .holds,
       sized start,
-      fields-right (counted (start .args .sheet)) (start .pre .0 .accepted),
+      fields-right (width .limit) (counted (start .args .sheet)) (start .pre .0 .accepted),
       entry-lines-room (sized start) (counted (start .args .sheet) .jobCount) (right start .ranged .jobs-high),
     )
 
@@ -42,7 +43,7 @@ fill-table-requires-2 c κs =
     let s = counted (start .args .sheet) in (
       start .pre .0 .holds,
       sized start,
-      fields-right s (start .pre .0 .accepted),
+      fields-right (width .limit) s (start .pre .0 .accepted),
       lines-room (sized start) (s .speedCount)
           (omega (arith, speeds-few s (right start .ranged .rises), start .pre .0 .sized .largest-is)),
     )
@@ -50,7 +51,7 @@ fill-table-requires-2 c κs =
 place-requires : tie.Need-place-requires
 place-requires c κs =
     let start = c .before .before .before .before .before .before .before .before in
-    let small = sizes-small (counted (start .args .sheet)) (start .pre .0 .accepted) (start .pre .0 .sized) in
+    let small = sizes-small (counted (start .args .sheet)) (right start) (start .pre .0 .sized) in
     (small .0, omega (arith, small .1), omega arith)
 
 fill-end-requires : tie.Need-fill-end-requires

@@ -9,7 +9,7 @@ use Rattle.backward.proofs.slots.fill_ahead.Tie as tie
 fill-requires : tie.Need-fill-requires
 fill-requires c κs =
     let pre = c .before .before .before .before .pre in
-    (first-given width (omega arith) (pre .0 .0) (pre .0 .1) (pre .1), pre .0 .2)
+    (first-given width (pre .0 .0) (pre .0 .1) (pre .1), pre .0 .2)
 
 same-length : tie.Need-same-length
 same-length c = search needs
@@ -18,7 +18,7 @@ returns : tie.Need-returns
 returns c =
     let called = c .before .before in
     let pre = called .before .before .before .before .before .pre in
-    first-left width (omega arith) (pre .0 .0) (pre .0 .1) (called .fill .ensures)
+    first-left width (pre .0 .0) (pre .0 .1) (called .fill .ensures)
 
 pub fill-ahead-spec : {M : Type 1} → statement M
 fill-ahead-spec = tie.close (tie.spec fill-requires same-length returns)

@@ -3,22 +3,22 @@ use Prim.Native.Nat.{_≤_, _-_}
 use mathlib.Core.Option.{some}
 use mathlib.Core.Path.{refl}
 use native.Mathlib.Omega.{arith}
-use Rattle.value.specs.Fills.{Fills}
+use Rattle.buffers.specs.Fills.{Fills}
 use Rattle.value.specs.Narrow.{width}
-use Rattle.value.specs.Width.{readAt}
-use Rattle.value.proofs.Filling.{read-local, fills-none, fills-more, fills-whole}
+use Rattle.model.specs.Width.{valueIn}
+use Rattle.buffers.proofs.Filling.{value-local, fills-none, fills-more, fills-whole}
 use Rattle.backward.proofs.slots.fill_end.Statement.{statement}
 use Rattle.backward.proofs.slots.fill_end.Tie as tie
 
 abbrev Inv-loop : tie.InvT-loop
 Inv-loop queues from values₀ number₀ values number =
-    (number ≤ queues) × Fills (width .places) (readAt width) (λ i. some 0) from number values₀ values
+    (number ≤ queues) × Fills (width .places) (valueIn width) (λ i. some 0) from number values₀ values
 
 abbrev μ-loop : tie.MeasureT-loop
 μ-loop queues from values₀ number₀ values number = queues - number
 
 loop-holds : tie.Need-loop-holds Inv-loop μ-loop
-loop-holds c = (omega arith, fills-none (width .places) (readAt width) _ (c .before .args .from) (c .before .args .values .now))
+loop-holds c = (omega arith, fills-none (width .places) (valueIn width) _ (c .before .args .from) (c .before .args .values .now))
 
 add-store : tie.Need-add-store Inv-loop μ-loop
 add-store c = omega arith
@@ -39,7 +39,7 @@ loop-again : tie.Need-loop-again Inv-loop μ-loop
 loop-again c =
     let start = c .before .before in (
       omega arith,
-      fills-more (width .places) (readAt width) (read-local width) refl (start .before .of .ensures)
+      fills-more (width .places) (valueIn width) (value-local width) refl (start .before .of .ensures)
           (start .before .before .before .before .loop .inv .1) (start .store .ensures),
     )
 
@@ -47,7 +47,7 @@ same-length : tie.Need-same-length Inv-loop μ-loop
 same-length c = c .before .loop .inv .1 .same-length
 
 returns : tie.Need-returns Inv-loop μ-loop
-returns c = fills-whole (width .places) (readAt width) (c .before .loop .inv .1) (omega arith)
+returns c = fills-whole (width .places) (valueIn width) (c .before .loop .inv .1) (omega arith)
 
 pub fill-end-spec : {M : Type 1} → statement M
 fill-end-spec =

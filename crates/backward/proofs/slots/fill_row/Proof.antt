@@ -9,7 +9,7 @@ use Rattle.backward.proofs.slots.fill_row.Tie as tie
 fill-requires : tie.Need-fill-requires
 fill-requires c κs =
     let pre = c .before .before .before .before .before .before .pre in
-    (second-given width (omega arith) (pre .0 .0) (pre .0 .1) (pre .1), pre .0 .2, pre .0 .3)
+    (second-given width (pre .0 .0) (pre .0 .1) (pre .1), pre .0 .2, pre .0 .3)
 
 same-length : tie.Need-same-length
 same-length c = search needs
@@ -21,7 +21,7 @@ returns : tie.Need-returns
 returns c =
     let called = c .before .before .before .before in
     let pre = called .before .before .before .before .before .before .before .pre in
-    second-left width (omega arith) (pre .0 .0) (pre .0 .1) (called .fill .ensures)
+    second-left width (pre .0 .0) (pre .0 .1) (called .fill .ensures)
 
 pub fill-row-spec : {M : Type 1} → statement M
 fill-row-spec = tie.close (tie.spec fill-requires same-length same-length-2 returns)

@@ -10,9 +10,10 @@ use lib.ListN.{length}
 use Rattle.model.specs.Counted.{Counted, counted, W}
 use Rattle.model.proofs.Refusal.{accepted, fields-right}
 use Rattle.value.specs.Narrow.{width, valueOf}
-use Rattle.rows.proofs.Measures.{measured, after-room}
+use Rattle.sheets.proofs.Measures.{measured}
+use Rattle.rows.proofs.Room.{after-room}
 use Rattle.backward.specs.Passes.{PlannedFrom}
-use Rattle.backward.proofs.Backward.{scale-next, scale-room, sizes-small, Stands, slot-stands, slot-in-plan, values-room, plan-room, next-stands, planned-more}
+use Rattle.backward.proofs.Backward.{scale-next, scale-room, sizes-small, SlotRows, slot-rows, slot-in-plan, values-room, plan-room, next-stands, planned-more}
 use Rattle.backward.proofs.slots.fill_slots.Statement.{statement}
 use Rattle.backward.proofs.slots.fill_slots.Tie as tie
 
@@ -31,7 +32,7 @@ sheetIn turn = counted (turn .before .before .before .before .before .before .be
 weights-requires : tie.Need-weights-requires Inv-loop μ-loop
 weights-requires c κs =
     let start = c .before .before .before .before in
-    fields-right (counted (start .args .sheet)) (start .pre .0 .0 .accepted)
+    fields-right (width .limit) (counted (start .args .sheet)) (start .pre .0 .0 .accepted)
 
 of-requires : tie.Need-of-requires Inv-loop μ-loop
 of-requires c κs = tt
@@ -49,25 +50,25 @@ add-requires c κs =
     let turn = c .before .before .before in
     let start = turn .before .before .before .before .before .before .before in
     let s = sheetIn turn in
-    scale-room width (omega arith) s (accepted s (start .pre .0 .0 .accepted)) (turn .loop .left) (c .before .if1 .taken)
+    scale-room width s (accepted s (start .pre .0 .0 .accepted)) (turn .loop .left) (c .before .if1 .taken)
     (turn .before .before .weights .ensures) (c .of2 .ensures) (turn .loop .inv .2)
 
 slot-with-requires : tie.Need-slot-with-requires Inv-loop μ-loop
 slot-with-requires c κs =
     let start = c .before .before .before .before .before .before .before .before .before .before .before in
-    let small = sizes-small (counted (start .args .sheet)) (start .pre .0 .0 .accepted) (start .pre .0 .0 .sized) in
+    let small = sizes-small (counted (start .args .sheet)) (accepted (counted (start .args .sheet)) (start .pre .0 .0 .accepted)) (start .pre .0 .0 .sized) in
     (small .0, omega (arith, small .1), omega (arith, c .before .before .if1 .taken))
 
 -- the slot of this turn stands where it should
 stands : (c : tie.After-slot-with Inv-loop μ-loop) →
     let turn = c .before .before .before .before .before in
     let slot = c .slot-with .result in
-    Stands (sheetIn turn) (turn .loop .left) (slot .left) (slot .this) (slot .next) (slot .row)
+    SlotRows (sheetIn turn) (turn .loop .left) (slot .left) (slot .this) (slot .next) (slot .row)
 stands c =
     let turn = c .before .before .before .before .before in
     let start = turn .before .before .before .before .before .before .before in
     let made = c .slot-with .ensures in
-    slot-stands (sheetIn turn) (turn .loop .left) (start .pre .0 .0 .sized .queues-is) (c .before .before .before .if1 .taken) (made .0)
+    slot-rows (sheetIn turn) (turn .loop .left) (start .pre .0 .0 .sized .queues-is) (c .before .before .before .if1 .taken) (made .0)
     (made .2)
     (made .3) (made .4)
 
@@ -115,7 +116,7 @@ add-left c =
       arith,
       c .before .before .before .before .before .before .before .before .before .before .before .before .if1 .taken,
       sizes-small
-          (sheetIn turn) (start .pre .0 .0 .accepted) (start .pre .0 .0 .sized) .1,
+          (sheetIn turn) (accepted (sheetIn turn) (start .pre .0 .0 .accepted)) (start .pre .0 .0 .sized) .1,
     )
 
 loop-less : tie.Need-loop-less Inv-loop μ-loop

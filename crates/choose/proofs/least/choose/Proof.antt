@@ -8,7 +8,7 @@ use Rattle.model.specs.Counted.{counted, speedAt}
 use Rattle.model.proofs.Tests.{first-within}
 use Rattle.queues.specs.Blocks.{queueWith, firstOf, numberIn}
 use Rattle.value.specs.Narrow.{width, valueOf}
-use Rattle.rows.proofs.Measures.{after-room}
+use Rattle.rows.proofs.Room.{after-room}
 use Rattle.speed_lanes.specs.Lanes.{leadsOn, slowestIn}
 use Rattle.choose.specs.Choice.{costAt, leastTo, IsChoice}
 use Rattle.choose.proofs.Choices.{least-begun, least-more, least-whole}

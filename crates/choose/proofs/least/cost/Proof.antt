@@ -9,9 +9,10 @@ use Rattle.process.specs.Recursion.{plus, times}
 use Rattle.model.specs.Counted.{counted, speedAt, energyAt}
 use Rattle.queues.specs.Blocks.{queueWith, firstOf, lowestOf, numberIn}
 use Rattle.value.specs.Narrow.{width, valueOf}
-use Rattle.value.specs.Width.{readAt, Below}
-use Rattle.value.proofs.Filling.{fewer-fit}
-use Rattle.rows.proofs.Measures.{after-room}
+use Rattle.model.specs.Width.{valueIn}
+use Rattle.value.specs.Values.{Fits}
+use Rattle.buffers.proofs.Filling.{fewer-fit}
+use Rattle.rows.proofs.Room.{after-room}
 use Rattle.speed_lanes.specs.Lanes.{laneOf}
 use Rattle.choose.specs.Choice.{costAt}
 use Rattle.choose.proofs.Passing.{in-range, columns-room, most-before, most-before-small, speed-read, energy-read, speed-small, line-room, line-lowest, line-lane, number-low, cost-past, cost-there, found-low}
@@ -80,7 +81,7 @@ told c =
     let inside = start .pre .1 in
     ap (λ (e : ℕ). plus (valueOf (c .before .load .result)) (times e (valueOf (a .scale)))) (energy-read given (a .place) (start .pre .3)) ∙
     ap (λ (r : Option ℕ). plus r (times (energyAt (counted (a .sheet)) (a .place)) (valueOf (a .scale))))
-    (c .before .load .ensures ∙ ap (readAt width (a .ahead .now)) (there (c .before .before) .0)) ∙
+    (c .before .load .ensures ∙ ap (valueIn width (a .ahead .now)) (there (c .before .before) .0)) ∙
     sym
     (cost-there given (a .block) (inside .block-low) (a .last) inside (a .place) (start .pre .2) (start .pre .3)
     (omega (
@@ -197,7 +198,7 @@ add-requires : tie.Need-add-requires
 add-requires c κs =
     let start = c .before .before .before .before .before .before .before .before .before .before .before .before .before in
     let a = start .args in
-    subst (λ (r : Option ℕ). Below (width .limit) r) (sym (told c))
+    subst (Fits width) (sym (told c))
     (start .pre .0 .fits _ (a .place) (number-low (start .pre .0) (a .block) (start .pre .1 .block-low) (a .last) (start .pre .1))
     (start .pre .3))
 

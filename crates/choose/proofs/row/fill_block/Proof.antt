@@ -6,7 +6,7 @@ use lib.ListN.{length, getD}
 use Rattle.model.specs.Counted.{counted}
 use Rattle.queues.specs.Blocks.{lowestOf, InBlock}
 use Rattle.value.specs.Narrow.{width, valueOf}
-use Rattle.rows.proofs.Measures.{after-room, most-total}
+use Rattle.rows.proofs.Room.{after-room, most-total}
 use Rattle.choose.specs.Pass.{Within, LeftWhere}
 use Rattle.choose.proofs.Passing.{in-range, block-low, lowest-high, line-room, line-lowest, left-none, left-more}
 use Rattle.choose.proofs.row.fill_block.Statement.{statement}

@@ -7,8 +7,8 @@ use lib.ListN.{length, getD}
 use Rattle.model.specs.Counted.{counted}
 use Rattle.queues.specs.Blocks.{lowestOf, numberIn}
 use Rattle.value.specs.Narrow.{width, valueOf}
-use Rattle.value.proofs.Filling.{fewer-fit}
-use Rattle.rows.proofs.Measures.{after-room}
+use Rattle.buffers.proofs.Filling.{fewer-fit}
+use Rattle.rows.proofs.Room.{after-room}
 use Rattle.choose.proofs.Passing.{in-range, byte-fits, line-room, line-start, line-lowest, number-low, left-stored}
 use Rattle.choose.proofs.row.fill_queue.Statement.{statement}
 use Rattle.choose.proofs.row.fill_queue.Tie as tie

@@ -6,8 +6,8 @@ use borrow.Author.Needs.{needs}
 use Rattle.model.specs.Queue.{placesOf, queueCount}
 use Rattle.queues.specs.Blocks.{firstOf}
 use Rattle.queues.specs.Order.{Ranges}
-use Rattle.slot.specs.Slot.{kept}
-use Rattle.rows.proofs.Measures.{ranges-fewer, one-fewer}
+use Rattle.slot.specs.Slot.{lastTwice}
+use Rattle.sheets.proofs.Measures.{ranges-fewer, one-fewer}
 use Rattle.entry_lanes.proofs.Firsts.{after-places}
 use Rattle.entry_lanes.proofs.table.first_after.Statement.{statement}
 use Rattle.entry_lanes.proofs.table.first_after.Tie as tie
@@ -44,7 +44,7 @@ returns c =
     after-places (a .sizes .largest) (a .sizes .bound - 1) (a .block) (omega (arith, start .pre .1 .ranges .bound-high))
     (subst (λ (d : ℕ). a .block < queueCount (a .sizes .largest) (pred d)) (sym (one-fewer (a .sizes .bound))) (block start))
     (c .before .first-queue .ensures) (c .total .ensures) ∙
-    ap (λ (d : ℕ). placesOf (kept (firstOf (a .sizes .largest) d (a .block)))) (one-fewer (a .sizes .bound))
+    ap (λ (d : ℕ). placesOf (lastTwice (firstOf (a .sizes .largest) d (a .block)))) (one-fewer (a .sizes .bound))
 
 pub first-after-spec : {M : Type 1} → statement M
 first-after-spec =

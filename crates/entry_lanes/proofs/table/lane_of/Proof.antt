@@ -17,18 +17,18 @@ numbered : (c : tie.Else1) → Numbered (c .before .before .args .sizes .largest
 numbered c =
     record {
       ranges = c .before .before .pre .1 .ranges;
-      is-bearable = subst T (sym (passed-by (c .before .finishable .ensures) (c .if1 .left))) tt;
+      is-bearable = subst T (sym (passed-by (c .before .bearable .ensures) (c .if1 .left))) tt;
     }
 
-finishable-requires : tie.Need-finishable-requires
-finishable-requires c κs = search needs
+bearable-requires : tie.Need-bearable-requires
+bearable-requires c κs = search needs
 
 returns : tie.Need-returns
 returns c =
     let a = c .before .before .args in
     sym
     (ap (λ (b : Bool). cond b (numberOf (a .sizes .largest) (queueIn (a .sizes .bound) (a .queue))) 0)
-    (failed-by (c .before .finishable .ensures) (c .if1 .taken)))
+    (failed-by (c .before .bearable .ensures) (c .if1 .taken)))
 
 number-requires : tie.Need-number-requires
 number-requires c κs = (c .before .before .pre .0, numbered c)
@@ -51,8 +51,8 @@ returns-2 c =
     c .number .ensures ∙
     sym
     (ap (λ (b : Bool). cond b (numberOf (a .sizes .largest) (queueIn (a .sizes .bound) (a .queue))) 0)
-    (passed-by (c .before .before .finishable .ensures) (c .before .if1 .left)))
+    (passed-by (c .before .before .bearable .ensures) (c .before .if1 .left)))
 
 pub lane-of-spec : {M : Type 1} → statement M
 lane-of-spec =
-    tie.close (tie.spec finishable-requires returns number-requires cast-result returns-2)
+    tie.close (tie.spec bearable-requires returns number-requires cast-result returns-2)

@@ -8,8 +8,8 @@ use Rattle.model.specs.Queue.{queueIn, arrive}
 use Rattle.model.specs.declared.Job.{Job}
 use Rattle.model.proofs.Refusal.{Ranged, ranged}
 use Rattle.limits.proofs.Places.{job-counts}
-use Rattle.value.specs.Fills.{Fills, numberAt}
-use Rattle.value.proofs.Filling.{number-local, fills-none, fills-more, fills-whole, number-stored}
+use Rattle.buffers.specs.Fills.{Fills, numberAt}
+use Rattle.buffers.proofs.Filling.{number-local, fills-none, fills-more, fills-whole, number-stored}
 use Rattle.entry_lanes.specs.Lanes.{joined, laneOf}
 use Rattle.entry_lanes.proofs.Firsts.{joined-in}
 use Rattle.entry_lanes.proofs.table.put_lanes.Statement.{statement}

@@ -9,8 +9,9 @@ use Rattle.model.specs.Queue.{Queue, queueCount, numberOf}
 use Rattle.model.proofs.Refusal.{Ranged, ranged}
 use Rattle.queues.proofs.RoundTrip.{number-in-below}
 use Rattle.rows.specs.Tables.{lineAt}
-use Rattle.rows.proofs.Kept.{last-in}
-use Rattle.rows.proofs.Measures.{one-fewer, after-room, blocks-few}
+use Rattle.rows.proofs.LastTwice.{last-in}
+use Rattle.sheets.proofs.Measures.{one-fewer}
+use Rattle.rows.proofs.Room.{after-room, blocks-few}
 use Rattle.rows.proofs.Tables.{line-stored, line-same, line-within}
 use Rattle.entry_lanes.specs.Lanes.{firstAfter, joined, stepsTo, laneOf}
 use Rattle.entry_lanes.proofs.Firsts.{after-in, after-small, before-in, before-numbered, after-lowest, lowest-upto}

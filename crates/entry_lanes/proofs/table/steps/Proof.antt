@@ -10,7 +10,7 @@ use Rattle.model.specs.declared.Job.{Job}
 use Rattle.model.proofs.Refusal.{Ranged, ranged}
 use Rattle.slot.proofs.Places.{total-in}
 use Rattle.limits.proofs.Places.{job-counts}
-use Rattle.rows.proofs.Measures.{most-total}
+use Rattle.rows.proofs.Room.{most-total}
 use Rattle.entry_lanes.specs.Lanes.{stepsOf, stepsTo}
 use Rattle.entry_lanes.proofs.Firsts.{joined-in, most-fewer}
 use Rattle.entry_lanes.proofs.Lanes.{steps-begun, steps-more}

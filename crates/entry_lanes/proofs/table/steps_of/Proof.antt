@@ -11,7 +11,8 @@ use Rattle.model.specs.Queue.{total, queueIn, bearable}
 use Rattle.model.proofs.Queues.{length-in}
 use Rattle.slot.proofs.Places.{total-in}
 use Rattle.ranges.proofs.Answers.{passed-by, failed-by}
-use Rattle.rows.proofs.Measures.{most-total, one-fewer}
+use Rattle.sheets.proofs.Measures.{one-fewer}
+use Rattle.rows.proofs.Room.{most-total}
 use Rattle.entry_lanes.proofs.Firsts.{most-fewer, last-held, before-held}
 use Rattle.entry_lanes.proofs.Lanes.{steps-told}
 use Rattle.entry_lanes.proofs.table.steps_of.Statement.{statement}
@@ -26,15 +27,15 @@ held c =
     let start = c .before .before .before in
     let a = start .args in
     let t : T (bearable (a .sizes .largest) (queueIn (a .sizes .bound) (a .queue))) =
-    subst T (sym (passed-by (c .before .before .finishable .ensures) (c .before .if1 .left))) tt in
+    subst T (sym (passed-by (c .before .before .bearable .ensures) (c .before .if1 .left))) tt in
     let six : length (a .queue) ≡ 6 = omega (arith, start .good) in
     let long = length-in (a .sizes .bound) (a .queue) (omega (arith, start .pre .ranges .bound-high, six)) in (
       last-held (a .sizes .largest) (a .sizes .bound) (a .queue) (start .pre .bound-low) t long,
       before-held (a .sizes .largest) (a .sizes .bound) (a .queue) (start .pre .bound-low) t long,
     )
 
-finishable-requires : tie.Need-finishable-requires
-finishable-requires c κs = search needs
+bearable-requires : tie.Need-bearable-requires
+bearable-requires c κs = search needs
 
 returns : tie.Need-returns
 returns c =
@@ -43,7 +44,7 @@ returns c =
     let M = a .sizes .largest in
     let D = a .sizes .bound in
     sym (ap (λ (b : Bool). cond b (suc (min (pred D * M - total w (pred D)) (D * M - total w D))) 0)
-    (failed-by (c .before .finishable .ensures) (c .if1 .taken)))
+    (failed-by (c .before .bearable .ensures) (c .if1 .taken)))
 
 cast-most : tie.Need-cast-most
 cast-most c = search needs
@@ -93,7 +94,7 @@ returns-2 c =
     let a = start .args in
     let D = a .sizes .bound in
     steps-told (a .sizes .largest) D (queueIn D (a .queue))
-    (subst T (sym (passed-by (known .before .before .finishable .ensures) (known .before .if1 .left))) tt)
+    (subst T (sym (passed-by (known .before .before .bearable .ensures) (known .before .if1 .left))) tt)
     (ap (λ (x : ℕ). x - c .before .before .total .result) (most-fewer (a .sizes .largest) D (start .pre .bound-low)) ∙
     ap (λ (x : ℕ). pred D * a .sizes .largest - x)
     (c .before .before .total .ensures ∙ ap (total (a .queue)) (one-fewer D) ∙ sym (total-in D (a .queue) (pred D) (omega arith))))
@@ -103,7 +104,7 @@ pub steps-of-spec : {M : Type 1} → statement M
 steps-of-spec =
     tie.close
     (tie.spec
-    finishable-requires
+    bearable-requires
     returns
     cast-most
     mul-most

@@ -6,6 +6,7 @@ use native.Mathlib.Nat.{pow-zero}
 use native.Mathlib.Omega.{arith}
 use Rattle.model.proofs.Refusal.{accepted, fields-right, power-fits}
 use Rattle.model.specs.Counted.{counted, W}
+use Rattle.model.specs.Refusal.{valueLimit}
 use Rattle.lines.proofs.Heads.{power-next}
 use Rattle.lines.proofs.header.scale_of.Statement.{statement}
 use Rattle.lines.proofs.header.scale_of.Tie as tie
@@ -17,7 +18,7 @@ abbrev μ-loop : tie.MeasureT-loop
 μ-loop sheet weight-sum scale₀ done₀ scale done = sheet .horizon - done
 
 weights-requires : tie.Need-weights-requires Inv-loop μ-loop
-weights-requires c κs = fields-right (counted (c .args .sheet)) (c .pre)
+weights-requires c κs = fields-right valueLimit (counted (c .args .sheet)) (c .pre)
 
 cast-weight-sum : tie.Need-cast-weight-sum Inv-loop μ-loop
 cast-weight-sum c = omega arith

@@ -7,7 +7,7 @@ use Rattle.model.proofs.Refusal.{fields-right}
 use Rattle.laws.proofs.Rooms.{row-accepted}
 use Rattle.model.specs.Counted.{Counted, counted}
 use Rattle.model.specs.Plan.{rowRefusal}
-use Rattle.model.specs.Refusal.{sheetRefusal}
+use Rattle.model.specs.Refusal.{sheetRefusal, valueLimit}
 use Rattle.lines.specs.Lines.{HasRows}
 use Rattle.listing.proofs.Outcomes.{listing-refused, listing-short, listing-done}
 use Rattle.listing.proofs.Rows.{rows-accepted}
@@ -25,7 +25,7 @@ sheet c = counted (start c .args .sheet)
 accepted : (c : tie.Else1) → rowRefusal (sheet c) (length (start c .args .plan .now)) ≡ 0
 accepted c = sym (c .before .row-refusal .ensures) ∙ c .if1 .left
 
-right : (c : tie.Else1) → sheetRefusal (sheet c) ≡ 0
+right : (c : tie.Else1) → sheetRefusal valueLimit (sheet c) ≡ 0
 right c = row-accepted (sheet c) _ (accepted c) .0
 
 -- so the plan has every row
@@ -46,7 +46,7 @@ returns c =
 
 queues-of-requires : tie.Need-queues-of-requires
 queues-of-requires c κs =
-    (c .before .before .before .before .table .ensures, fields-right (sheet (c .before)) (right (c .before)))
+    (c .before .before .before .before .table .ensures, fields-right valueLimit (sheet (c .before)) (right (c .before)))
 
 scale-of-requires : tie.Need-scale-of-requires
 scale-of-requires c κs = right (c .before .before)

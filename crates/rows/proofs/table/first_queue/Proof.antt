@@ -7,9 +7,9 @@ use Rattle.model.specs.Queue.{placesOf, queueCount}
 use Rattle.model.proofs.Queues.{listed-bearable}
 use Rattle.queues.specs.Blocks.{queueWith}
 use Rattle.queues.specs.Order.{Ranges}
-use Rattle.slot.specs.Slot.{kept}
-use Rattle.rows.proofs.Kept.{kept-places}
-use Rattle.rows.proofs.Measures.{ranges-fewer}
+use Rattle.slot.specs.Slot.{lastTwice}
+use Rattle.rows.proofs.LastTwice.{twice-places}
+use Rattle.sheets.proofs.Measures.{ranges-fewer}
 use Rattle.rows.proofs.table.first_queue.Statement.{statement}
 use Rattle.rows.proofs.table.first_queue.Tie as tie
 
@@ -37,10 +37,10 @@ returns : tie.Need-returns
 returns c =
     let fewer = c .before .before in
     let a = fewer .before .args in
-    kept-places (fewer .one-fewer .result) (queueWith (a .largest) (fewer .one-fewer .result) (a .block))
+    twice-places (fewer .one-fewer .result) (queueWith (a .largest) (fewer .one-fewer .result) (a .block))
     (omega (arith, fewer .one-fewer .ensures, fewer .before .pre .1 .bound-high))
     (listed-bearable (a .largest) (fewer .one-fewer .result) (a .block) (within fewer) .0) (c .before .queue-at .ensures) (c .total .ensures) ∙
-    ap (λ (d : ℕ). placesOf (kept (queueWith (a .largest) d (a .block)))) (fewer .one-fewer .ensures)
+    ap (λ (d : ℕ). placesOf (lastTwice (queueWith (a .largest) d (a .block)))) (fewer .one-fewer .ensures)
 
 pub first-queue-spec : {M : Type 1} → statement M
 first-queue-spec =

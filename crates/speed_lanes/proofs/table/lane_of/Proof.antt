@@ -9,7 +9,8 @@ use Rattle.model.specs.Queue.{Queue, queueIn, bearable, queueCount, numberOf}
 use Rattle.queues.specs.Order.{Ranges, Numbered}
 use Rattle.queues.proofs.RoundTrip.{number-in-below}
 use Rattle.ranges.proofs.Answers.{passed-by, failed-by}
-use Rattle.rows.proofs.Measures.{ranges-fewer, one-fewer, after-room}
+use Rattle.sheets.proofs.Measures.{ranges-fewer, one-fewer}
+use Rattle.rows.proofs.Room.{after-room}
 use Rattle.speed_lanes.specs.Lanes.{afterOf, leadsOn}
 use Rattle.speed_lanes.proofs.Lanes.{after-places, leads-parts}
 use Rattle.speed_lanes.proofs.table.lane_of.Statement.{statement}

@@ -22,18 +22,18 @@ returns c =
 after-requires : tie.Need-after-requires
 after-requires c κs = search needs
 
-sub-finishable : tie.Need-sub-finishable
-sub-finishable c = search needs
+sub-bearable : tie.Need-sub-bearable
+sub-bearable c = search needs
 
-finishable-requires : tie.Need-finishable-requires
-finishable-requires c κs = search needs
+bearable-requires : tie.Need-bearable-requires
+bearable-requires c κs = search needs
 
 returns-2 : tie.Need-returns-2
 returns-2 c =
     let start = c .before .before .before .before in
     let a = start .args in
     let m = start .pre in
-    c .finishable .ensures ∙
+    c .bearable .ensures ∙
     ap (λ (q : Queue). bearable (a .sizes .largest) q)
     (after-places (a .sizes .bound) (a .t2) (a .speed) (m .bound-low) (m .ranges .bound-high) (omega arith)
     (c .before .before .after .ensures)) ∙
@@ -44,4 +44,4 @@ returns-2 c =
 pub leads-on-spec : {M : Type 1} → statement M
 leads-on-spec =
     tie.close
-    (tie.spec array-read-if1 returns after-requires sub-finishable finishable-requires returns-2)
+    (tie.spec array-read-if1 returns after-requires sub-bearable bearable-requires returns-2)

@@ -7,8 +7,8 @@ use Rattle.model.specs.Queue.{queueIn}
 use Rattle.model.specs.declared.Speed.{Speed}
 use Rattle.model.proofs.Refusal.{Ranged, ranged}
 use Rattle.limits.proofs.Places.{speed-counts}
-use Rattle.value.specs.Fills.{Fills, numberAt}
-use Rattle.value.proofs.Filling.{number-local, fills-none, fills-more, fills-whole, number-stored}
+use Rattle.buffers.specs.Fills.{Fills, numberAt}
+use Rattle.buffers.proofs.Filling.{number-local, fills-none, fills-more, fills-whole, number-stored}
 use Rattle.speed_lanes.specs.Lanes.{laneOf}
 use Rattle.speed_lanes.proofs.table.put_lanes.Statement.{statement}
 use Rattle.speed_lanes.proofs.table.put_lanes.Tie as tie

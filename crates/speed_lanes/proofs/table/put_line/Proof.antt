@@ -10,8 +10,8 @@ use Rattle.model.proofs.Refusal.{Ranged, ranged}
 use Rattle.queues.specs.Blocks.{firstOf}
 use Rattle.queues.proofs.RoundTrip.{number-in-below}
 use Rattle.rows.specs.Tables.{lineAt}
-use Rattle.rows.proofs.Kept.{first-in, first-numbered, lowest-in}
-use Rattle.rows.proofs.Measures.{after-room}
+use Rattle.rows.proofs.LastTwice.{first-in, first-numbered, lowest-in}
+use Rattle.rows.proofs.Room.{after-room}
 use Rattle.rows.proofs.Tables.{line-stored, line-same, line-within}
 use Rattle.speed_lanes.specs.Lanes.{slowestIn, laneOf}
 use Rattle.speed_lanes.proofs.table.put_line.Statement.{statement}

@@ -1,0 +1,45 @@
+-- What follows from the sizes of a sheet (sheets/specs/Sizes.antt): the tables and the buffer of the passes have room.
+use Prim.Native.Nat.{ℕ, suc, _+_, _*_, _≤_}
+use mathlib.Core.Path.{ap}
+use native.Mathlib.Nat.{mul-le-mul, mul-le-mul-left}
+use native.Mathlib.Omega.{arith}
+use Rattle.model.specs.Queue.{queueCount}
+use Rattle.queues.proofs.Fewer.{few-after, few-lines, few-blocks}
+use Rattle.sheets.specs.Sizes.{Measured}
+use Rattle.sheets.specs.declared.sizes.Sizes.{Sizes}
+use Rattle.rows.specs.Tables.{lineAt}
+
+-- what follows from there being few queues
+
+module _ {sizes : Sizes} (m : Measured sizes) where
+  queues-few : queueCount (sizes .largest) (sizes .bound) ≤ 65535
+  queues-few = omega (arith, m .queues-is, m .queues-high)
+
+  -- no last total is above 48
+  pub most-total : sizes .bound * sizes .largest ≤ 48
+  most-total = mul-le-mul (m .ranges .bound-high) (m .ranges .speed-high)
+
+  -- the buffer of what is ahead has room
+  pub after-room : sizes .after ≤ 7084
+  after-room = omega (arith, m .after-is, few-after (sizes .largest) (sizes .bound) (m .bound-low) (m .ranges) queues-few)
+
+  -- the queues after a slot come in few blocks
+  pub blocks-few : sizes .blocks ≤ 969
+  blocks-few = omega (arith, m .blocks-is, few-blocks (sizes .largest) (sizes .bound) (m .bound-low) (m .ranges) queues-few)
+
+  -- so has the table of the second pass, with no more speeds than 0 to M
+  pub lines-room : (n : ℕ) → n ≤ suc (sizes .largest) → lineAt 9 n (sizes .after) ≤ 49606
+  lines-room n h =
+      let short : n + 3 ≤ sizes .largest + 4 = omega arith in
+      omega (
+        arith,
+        mul-le-mul-left (sizes .after) short,
+        ap (λ (k : ℕ). k * (sizes .largest + 4)) (m .after-is),
+        few-lines (sizes .largest) (sizes .bound) (m .bound-low) (m .ranges) queues-few,
+      )
+
+  -- and that of the first, with at most 32 entries
+  pub entry-lines-room : (n : ℕ) → n ≤ 32 → lineAt 32 n (sizes .blocks) ≤ 33979
+  entry-lines-room n h =
+      let short : n + 3 ≤ 35 = omega arith in
+      omega (arith, mul-le-mul blocks-few short)
