@@ -1,8 +1,8 @@
 // What is ahead of every queue after a slot, block by block.
 use crate::sums::sum_at;
 use model::Sheet;
-use sheets::Sizes;
 use rows::line_at;
+use sheets::Sizes;
 ghost use Prim.Native.Nat.{suc, pred, _+_, _*_, _≤_, _<_};
 ghost use lib.ListN.{length};
 ghost use Rattle.model.specs.Counted.{counted};

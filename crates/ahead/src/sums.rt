@@ -1,7 +1,7 @@
 // What is ahead of one queue after a slot: the weighted sum over the entries.
 use model::Sheet;
-use sheets::Sizes;
 use rows::line_at;
+use sheets::Sizes;
 use value::Value;
 ghost use mathlib.Core.Path.{_≡_};
 ghost use Prim.Native.Nat.{_<_};

@@ -9,8 +9,8 @@ use native.Mathlib.Numerals.{add-one}
 use native.Mathlib.Omega.{arith}
 use borrow.Author.Tests.{ltb-true, ltb-false}
 use lib.Dec.{ltb}
-use lib.ListN.{length, getD, drop, set, length-append, length-drop, List·getD-append}
-use lib.Seq.{ext-getD, getD-append-add, getD-drop}
+use lib.ListN.{length, getD, take, drop, set, length-set, length-append, length-drop, List·getD-append}
+use lib.Seq.{ext-getD, getD-append-add, getD-drop, take-append-seam}
 use Rattle.model.specs.Bytes.{written, Wrote}
 use Rattle.model.specs.Tests.{inTurn}
 use Rattle.model.proofs.Tests.{turn-upto}
@@ -33,6 +33,10 @@ laid-one at b buffer h =
 -- the length of the buffer is kept
 pub laid-length : {at next : ℕ} {l before after : List ℕ} → Laid at l before after next → length after ≡ length before
 laid-length laid = laid .filled .same-length
+
+-- the place that follows is as far behind the first as the list is long
+pub laid-next : {at next : ℕ} {l before after : List ℕ} → Laid at l before after next → next ≡ at + length l
+laid-next laid = laid .next-is
 
 -- a list and then another behind it are the two as one
 pub laid-then : {at next last : ℕ} {l m before between after : List ℕ} → Laid at l before between next → Laid next m between after last →
@@ -60,6 +64,38 @@ pub room-then : {at next : ℕ} {l before between : List ℕ} (m : List ℕ) →
     at + length (l ++ m) ≤ length before → next + length m ≤ length between
 room-then {l = l} m first h = omega (arith, length-append l m, first .next-is, laid-length first)
 
+-- what a function knows that stores one byte of a list for which there is room: the byte alone, the byte and then others, others and then the
+-- byte
+
+module _ (at : ℕ) {l : List ℕ} (buffer : List ℕ) (room : at + length l ≤ length buffer) where
+  module _ {b : ℕ} {others : List ℕ} (e : l ≡ b ∷ others) where
+    -- alone or before others: its place is inside
+    pub byte-inside : at < length buffer
+    byte-inside = omega (arith, ap length e)
+
+    -- .. the others have room, whatever byte is stored
+    pub byte-then-room : (byte : ℕ) → at + 1 + length others ≤ length (set buffer at byte)
+    byte-then-room byte = simp length-set (omega (arith, ap length e))
+
+    -- .. and once it is stored and they are laid, the list is laid
+    pub byte-then-laid : {after : List ℕ} {next : ℕ} → Laid (at + 1) others (set buffer at b) after next → Laid at l buffer after next
+    byte-then-laid second = rw e (laid-then (laid-one at b buffer byte-inside) second)
+
+  -- alone: once it is stored, the list is laid
+  pub byte-laid : {b : ℕ} → l ≡ b ∷ [] → Laid at l buffer (set buffer at b) (at + 1)
+  byte-laid {b = b} e = rw e (laid-one at b buffer (byte-inside e))
+
+  module _ (others : List ℕ) (b : ℕ) (e : l ≡ others ++ b ∷ []) where
+    -- behind others: once they are laid, its place is inside
+    pub then-byte-inside : {between : List ℕ} {next : ℕ} → Laid at others buffer between next → next < length between
+    then-byte-inside first = omega (arith, room-then (b ∷ []) first (rw e at room))
+
+    -- .. and once it is stored too, the list is laid
+    pub then-byte-laid : {between : List ℕ} {next : ℕ} → Laid at others buffer between next →
+        Laid at l buffer (set between next b) (next + 1)
+    then-byte-laid {between = between} {next = next} first =
+        rw e (laid-then first (laid-one next b between (then-byte-inside first)))
+
 -- what a loop over lists in turn knows at place j, where the list l stands, and those before it are laid
 
 module _ (f : ℕ → List ℕ) (j : ℕ) {l : List ℕ} (here : f j ≡ l) {at next : ℕ} {before between : List ℕ}
@@ -74,6 +110,37 @@ module _ (f : ℕ → List ℕ) (j : ℕ) {l : List ℕ} (here : f j ≡ l) {at 
   pub turn-laid : {after : List ℕ} {last : ℕ} → Laid next l between after last → Laid at (inTurn f (j + 1)) before after last
   unfolding inTurn
   turn-laid second = rw (add-one, here) (laid-then first second)
+
+-- how far a loop, or a row of calls, over n lists in turn has come: there is room for all, and the first j are laid
+pub record LaidTo (f : ℕ → List ℕ) (n at : ℕ) (before : List ℕ) (j : ℕ) (between : List ℕ) (next : ℕ) : Type 0 where
+  pub upto : j ≤ n
+  pub room : at + length (inTurn f n) ≤ length before
+  pub first : Laid at (inTurn f j) before between next
+
+-- it begins with none
+pub laid-to-none : {f : ℕ → List ℕ} {n at : ℕ} {before : List ℕ} → at + length (inTurn f n) ≤ length before →
+    LaidTo f n at before 0 before at
+unfolding inTurn
+laid-to-none room = record { upto = omega arith; room = room; first = laid-none _ _ }
+
+module _ {f : ℕ → List ℕ} {n at : ℕ} {before : List ℕ} {j : ℕ} {between : List ℕ} {next : ℕ} (to : LaidTo f n at before j between next) where
+  -- the length of the buffer is kept
+  pub laid-to-length : length between ≡ length before
+  laid-to-length = laid-length (to .first)
+
+  -- the list l that comes next has room
+  pub laid-to-room : {l : List ℕ} → f j ≡ l → j < n → next + length l ≤ length between
+  laid-to-room here inside = turn-room f j here (to .first) n inside (to .room)
+
+  -- once it is laid, one list more is
+  pub laid-to-more : {l after : List ℕ} {last : ℕ} → f j ≡ l → j < n → Laid next l between after last →
+      LaidTo f n at before (j + 1) after last
+  laid-to-more here inside second =
+      record { upto = omega arith; room = to .room; first = turn-laid f j here (to .first) second }
+
+  -- at the end all are
+  pub laid-to-whole : n ≤ j → Laid at (inTurn f n) before between next
+  laid-to-whole h = let whole : j ≡ n = omega arith in rw whole at (to .first)
 
 -- what is laid from the first place on, where there is room for it, is what a call writes that is not refused
 pub laid-written : {bytes before after : List ℕ} {next : ℕ} (tested : ℕ) → tested ≡ 0 → length bytes ≤ length before →
@@ -100,3 +167,7 @@ laid-written {bytes = bytes} {before = before} {after = after} tested e room lai
 
     whole : after ≡ bytes ++ drop n before
     whole = ext-getD 0 after (bytes ++ drop n before) long (λ i h. each i (ltb i n) refl)
+
+-- .. and it stands there, up to the place that follows
+pub laid-front : {l before after : List ℕ} {next : ℕ} → length l ≤ length before → Laid 0 l before after next → take next after ≡ l
+laid-front {l = l} room laid = rw (laid-written 0 refl room laid .buffer-is, laid .next-is, zero-add) (take-append-seam l _)

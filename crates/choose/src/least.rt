@@ -1,8 +1,8 @@
 // The least over the speeds in one queue.
 use limits::larger;
 use model::Sheet;
-use sheets::Sizes;
 use rows::line_at;
+use sheets::Sizes;
 use value::Value;
 ghost use mathlib.Core.Path.{_≡_};
 ghost use Prim.Native.Nat.{_-_, _≤_, _<_};

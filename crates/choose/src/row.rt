@@ -1,8 +1,8 @@
 // The row of a slot, block by block: the value and the plan byte of each queue.
 use crate::least::choose;
 use model::Sheet;
-use sheets::Sizes;
 use rows::line_at;
+use sheets::Sizes;
 use value::Value;
 ghost use Prim.Native.Nat.{suc, _+_, _*_, _≤_, _<_};
 ghost use lib.ListN.{length};

@@ -4,11 +4,11 @@
 use model::Job;
 use model::Sheet;
 use queues::number;
-use sheets::Sizes;
 use rows::first_queue;
 use rows::line_at;
 use rows::put_head;
 use rows::put_pair;
+use sheets::Sizes;
 use slot::arrive;
 use slot::bearable;
 use slot::total;

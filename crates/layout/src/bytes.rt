@@ -19,7 +19,13 @@ pub fn byte_at(plan: &[u8], queues: usize, slot: u32, queue: usize) -> u8
 }
 
 // The plan byte of a slot and a bearable queue.
-pub fn byte_of_queue(counts: &[u32; 2352], sizes: Sizes, plan: &[u8], slot: u32, queue: [u32; 6]) -> u32
+pub fn byte_of_queue(
+    counts: &[u32; 2352],
+    sizes: Sizes,
+    plan: &[u8],
+    slot: u32,
+    queue: [u32; 6],
+) -> u32
     requires { ⌜ HoldsCounts (now counts) × Measured sizes × HasRow (now plan) (sizes .queues) slot ×
         T (bearable (sizes .largest) (queueIn (sizes .bound) queue)) ⌝ }
     ensures { λ r. ⌜ r ≡ byteIn (sizes .queues) (now (plan .entry)) slot (numberOf (sizes .largest) (queueIn (sizes .bound) queue)) ⌝ }

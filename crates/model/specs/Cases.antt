@@ -51,7 +51,7 @@ abbrev pub Holds : Case → Type 0
 Holds (planned s t values plan) =
     (length values ≡ N s) × (length plan ≡ N s) ×
     ((i : ℕ) → i < N s → IsValueAt s t (queueAt s i) (valueIn narrow values i) ×
-        IsPlanByte s t (queueAt s i) (valueIn narrow values i) (getD plan i 0))
+    IsPlanByte s t (queueAt s i) (valueIn narrow values i) (getD plan i 0))
 Holds (valued s t w r) = IsValueAt s t w r
 Holds (decides s t w r byte) = IsValueAt s t w r × IsPlanByte s t w r byte
 Holds (answers s number queues least) = FromEmpty s (record { number = number; queues = queues; least = least }) × (N s ≡ queues)

@@ -3,11 +3,11 @@
 // after a slot at it.
 use model::Sheet;
 use queues::number;
-use sheets::Sizes;
 use rows::first_queue;
 use rows::line_at;
 use rows::put_head;
 use rows::put_pair;
+use sheets::Sizes;
 use slot::after;
 use slot::bearable;
 ghost use mathlib.Core.Path.{_≡_};

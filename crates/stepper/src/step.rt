@@ -20,7 +20,14 @@ ghost use Rattle.stepper.specs.Parts.{movedOrRefused};
 const MOST_ENERGY: u32 = 4294967295;
 
 // The state after a slot at this speed and an arrival: 17 and 18, which hand back the state as it was.
-pub fn moved(sheet: Sheet, sizes: Sizes, state: State, speed: u32, size: u32, deadline: u32) -> Stepped
+pub fn moved(
+    sheet: Sheet,
+    sizes: Sizes,
+    state: State,
+    speed: u32,
+    size: u32,
+    deadline: u32,
+) -> Stepped
     requires { ⌜ (fieldsRefusal (counted sheet) ≡ 0) × Sized (counted sheet) sizes × T (stateRight (counted sheet) (stateOf state)) ×
         T (onSheet (counted sheet) speed) × (size ≤ 255) ⌝ }
     ensures { λ r. ⌜ IsStepped (movedOrRefused (counted sheet) (stateOf state) speed size deadline) (r .number) (r .state) ⌝ }

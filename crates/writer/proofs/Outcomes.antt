@@ -2,15 +2,16 @@
 use Prim.Native.Nat.{ℕ, _≤_, _<_}
 use mathlib.Core.Path.{_≡_, refl}
 use mathlib.Core.List.{List}
+use native.Mathlib.Omega.{arith}
 use borrow.Author.Tests.{eqb-false}
-use lib.ListN.{length}
+use lib.ListN.{length, take}
 use Rattle.laws.proofs.RoundTrip.{write-fits, write-short}
 use Rattle.model.proofs.Tests.{then-stops}
 use Rattle.laws.proofs.Written.{written-refused}
 use Rattle.model.specs.Bytes.{sheetBytes, writeRefusal, writeLines, write}
 use Rattle.model.specs.Counted.{Counted}
 use Rattle.model.specs.Refusal.{sheetRefusal, valueLimit}
-use Rattle.buffers.proofs.Laid.{laid-written}
+use Rattle.buffers.proofs.Laid.{laid-next, laid-front, laid-written}
 use Rattle.writer.specs.Calls.{IsWritten}
 use Rattle.buffers.specs.Laid.{Laid}
 
@@ -26,13 +27,17 @@ pub write-refused : (s : Counted) (buffer : List ℕ) {number : ℕ} → number 
 unfolding writeLines
 write-refused s buffer {number = number} e some = refused-with s buffer number (rw (← e) (then-stops number _ some)) some
 
--- the buffer is too short
-pub refused-short : (s : Counted) (buffer : List ℕ) → sheetRefusal valueLimit s ≡ 0 → length buffer < length (sheetBytes s) →
-    IsWritten s buffer 11 0 buffer
-refused-short s buffer e short = refused-with s buffer 11 (write-short s (length buffer) e short) (eqb-false 11 0 refl)
+-- what is known where the sheet is not refused and its bytes stand in an array of its own, up to the place `end`
+module _ (s : Counted) (right : sheetRefusal valueLimit s ≡ 0) {own bytes : List ℕ} {end : ℕ} (put : Laid 0 (sheetBytes s) own bytes end) where
+  -- the buffer is too short for them
+  pub refused-short : (buffer : List ℕ) → length buffer < end → IsWritten s buffer 11 0 buffer
+  refused-short buffer short =
+      refused-with s buffer 11 (write-short s (length buffer) right (omega (arith, laid-next put))) (eqb-false 11 0 refl)
 
--- nothing is refused: the sheet's bytes, laid from the first place on, are what is written
-pub write-done : (s : Counted) {before after : List ℕ} {next : ℕ} → sheetRefusal valueLimit s ≡ 0 → length (sheetBytes s) ≤ length before →
-    Laid 0 (sheetBytes s) before after next → IsWritten s before 0 next after
-unfolding write
-write-done s {before = before} e room laid = laid-written (writeRefusal s (length before)) (write-fits s (length before) e room) laid
+  -- it has room: once they are laid from its first place on too, they are what is written
+  pub write-done : length (sheetBytes s) ≤ length own → {before after : List ℕ} {next : ℕ} → end ≤ length before →
+      Laid 0 (take end bytes) before after next → IsWritten s before 0 next after
+  unfolding write
+  write-done few {before = before} end-inside laid =
+      let room : length (sheetBytes s) ≤ length before = omega (arith, laid-next put) in
+      laid-written (writeRefusal s (length before)) (write-fits s (length before) right room) room (rw (laid-front few put) at laid)

@@ -1,12 +1,14 @@
-// The writer: a sheet's bytes into a lent buffer. How long they are is worked out first, so that a refused write touches nothing. Its call
-// takes any sheet in memory and any buffer. What it refuses, it refuses with a number.
+// The writer: a sheet's bytes into a lent buffer. They are put into an array of its own first, so that a refused write touches nothing. Its
+// call takes any sheet in memory and any buffer. What it refuses, it refuses with a number.
 use counts::table;
+use decimals::put_text;
 use model::Job;
 use model::Sheet;
 use model::Speed;
 use sheets::sheet_refusal;
 ghost use mathlib.Core.Path.{_≡_};
 ghost use Prim.Native.Nat.{_+_, _^_, _≤_, _<_};
+ghost use mathlib.Core.List.{_++_};
 ghost use lib.ListN.{length};
 ghost use Rattle.writer.specs.Calls.{IsWritten};
 ghost use Rattle.buffers.specs.Laid.{Laid};
@@ -19,61 +21,6 @@ ghost use Rattle.model.specs.Refusal.{fieldsRefusal};
 pub struct Written {
     pub number: u32,
     pub length: usize,
-}
-
-// How many bytes a number takes.
-fn code_length(x: u32) -> usize
-    ensures { λ r. ⌜ r ≡ length (code x) ⌝ }
-{
-    if x < 128 {
-        return 1;
-    }
-    if x < 16384 {
-        return 2;
-    }
-    3
-}
-
-// How many bytes the speeds take.
-fn speeds_length(sheet: Sheet) -> usize
-    requires { ⌜ fieldsRefusal (counted sheet) ≡ 0 ⌝ }
-    ensures { λ r. ⌜ r ≡ length (speedBytes (counted sheet) (sheet .«speed_count»)) ⌝ }
-{
-    let mut all = 0;
-    let mut place = 0;
-    while place < sheet.speed_count {
-        let one = sheet.speeds[place as usize];
-        all += code_length(one.speed) + code_length(one.energy);
-        place += 1;
-    }
-    all
-}
-
-// How many bytes the jobs take.
-fn jobs_length(sheet: Sheet) -> usize
-    requires { ⌜ fieldsRefusal (counted sheet) ≡ 0 ⌝ }
-    ensures { λ r. ⌜ r ≡ length (jobBytes (counted sheet) (sheet .«job_count»)) ⌝ }
-{
-    let mut all = 0;
-    let mut place = 0;
-    while place < sheet.job_count {
-        let one = sheet.jobs[place as usize];
-        all += code_length(one.weight) + code_length(one.size) + code_length(one.deadline);
-        place += 1;
-    }
-    all
-}
-
-// How many bytes the sheet takes.
-fn sheet_length(sheet: Sheet) -> usize
-    requires { ⌜ fieldsRefusal (counted sheet) ≡ 0 ⌝ }
-    ensures { λ r. ⌜ r ≡ length (sheetBytes (counted sheet)) ⌝ }
-{
-    let before = code_length(sheet.bound) + code_length(sheet.speed_count);
-    let speeds = speeds_length(sheet);
-    let between = code_length(sheet.horizon) + code_length(sheet.job_count);
-    let jobs = jobs_length(sheet);
-    before + speeds + between + jobs
 }
 
 // Writes a number of at most `most` bytes at a place; answers the next place.
@@ -97,13 +44,21 @@ fn put(buffer: &mut [u8], at: usize, x: u32) -> usize
     put_in(3, buffer, at, x)
 }
 
+// Writes a number and another behind it.
+fn put_two(buffer: &mut [u8], at: usize, x: u32, y: u32) -> usize
+    requires { ⌜ (x < 128 ^ 3) × (y < 128 ^ 3) × (at + length (code x ++ code y) ≤ length (now buffer)) ⌝ }
+    ensures { λ r. ⌜ Laid at (code x ++ code y) (now (buffer .entry)) (now (buffer .exit)) r ⌝ }
+{
+    let next = put(buffer, at, x);
+    put(buffer, next, y)
+}
+
 // Writes a speed, then its energy.
 fn put_speed(buffer: &mut [u8], at: usize, one: Speed) -> usize
     requires { ⌜ SpeedShort one × (at + length (speedCode one) ≤ length (now buffer)) ⌝ }
     ensures { λ r. ⌜ Laid at (speedCode one) (now (buffer .entry)) (now (buffer .exit)) r ⌝ }
 {
-    let next = put(buffer, at, one.speed);
-    put(buffer, next, one.energy)
+    put_two(buffer, at, one.speed, one.energy)
 }
 
 // Writes the speeds.
@@ -126,9 +81,8 @@ fn put_job(buffer: &mut [u8], at: usize, one: Job) -> usize
     requires { ⌜ JobShort one × (at + length (jobCode one) ≤ length (now buffer)) ⌝ }
     ensures { λ r. ⌜ Laid at (jobCode one) (now (buffer .entry)) (now (buffer .exit)) r ⌝ }
 {
-    let next = put(buffer, at, one.weight);
-    let after = put(buffer, next, one.size);
-    put(buffer, after, one.deadline)
+    let next = put_two(buffer, at, one.weight, one.size);
+    put(buffer, next, one.deadline)
 }
 
 // Writes the jobs.
@@ -151,15 +105,14 @@ fn put_sheet(buffer: &mut [u8], sheet: Sheet) -> usize
     requires { ⌜ (fieldsRefusal (counted sheet) ≡ 0) × (length (sheetBytes (counted sheet)) ≤ length (now buffer)) ⌝ }
     ensures { λ r. ⌜ Laid 0 (sheetBytes (counted sheet)) (now (buffer .entry)) (now (buffer .exit)) r ⌝ }
 {
-    let at_speed_count = put(buffer, 0, sheet.bound);
-    let at_speeds = put(buffer, at_speed_count, sheet.speed_count);
+    let at_speeds = put_two(buffer, 0, sheet.bound, sheet.speed_count);
     let at_horizon = put_speeds(buffer, at_speeds, sheet);
-    let at_job_count = put(buffer, at_horizon, sheet.horizon);
-    let at_jobs = put(buffer, at_job_count, sheet.job_count);
+    let at_jobs = put_two(buffer, at_horizon, sheet.horizon, sheet.job_count);
     put_jobs(buffer, at_jobs, sheet)
 }
 
-// Writes a sheet.
+// Writes a sheet. The array has room for 118 numbers of three bytes: D, the count of speeds, T and the count of jobs, two for each of nine
+// speeds and three for each of 32 jobs. (By the ranges of the fields a sheet takes 201 bytes at most; three for every number is less to prove.)
 pub fn write(sheet: Sheet, buffer: &mut [u8]) -> Written
     ensures { λ r. ⌜ IsWritten (counted sheet) (now (buffer .entry)) (r .number) (r .length) (now (buffer .exit)) ⌝ }
 {
@@ -168,12 +121,14 @@ pub fn write(sheet: Sheet, buffer: &mut [u8]) -> Written
     if number != 0 {
         return Written { number, length: 0 };
     }
-    if buffer.len() < sheet_length(sheet) {
+    let mut bytes = [0; 354];
+    let end = put_sheet(&mut bytes, sheet);
+    if buffer.len() < end {
         return Written {
             number: 11,
             length: 0,
         };
     }
-    let length = put_sheet(buffer, sheet);
+    let length = put_text(buffer, 0, &bytes[..end]);
     Written { number: 0, length }
 }

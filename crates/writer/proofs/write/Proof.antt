@@ -1,13 +1,31 @@
 -- `write` meets its contract: the sheet is refused, or the buffer is too short for its bytes, or they are written.
-use mathlib.Core.Path.{sym, _∙_}
+use Prim.Native.Nat.{_≤_}
+use mathlib.Core.Path.{_≡_, sym, _∙_}
 use native.Mathlib.Omega.{arith}
 use borrow.Author.Needs.{needs}
-use Rattle.model.specs.Counted.{counted}
+use lib.ListN.{length}
+use lib.Seq.{length-take-le}
+use Rattle.model.specs.Bytes.{sheetBytes}
+use Rattle.model.specs.Counted.{Counted, counted}
+use Rattle.model.specs.Refusal.{sheetRefusal, valueLimit}
 use Rattle.model.proofs.Refusal.{fields-right}
-use Rattle.model.specs.Refusal.{valueLimit}
+use Rattle.buffers.proofs.Laid.{laid-next, laid-length}
+use Rattle.writer.proofs.Lengths.{sheet-upto}
 use Rattle.writer.proofs.Outcomes.{write-refused, refused-short, write-done}
 use Rattle.writer.proofs.write.Statement.{statement}
 use Rattle.writer.proofs.write.Tie as tie
+
+-- the sheet, seen from behind the first test
+abbrev sheet : tie.Else1 → Counted
+sheet c = counted (c .before .before .before .before .before .args .sheet)
+
+-- it is not refused
+accepted : (c : tie.Else1) → sheetRefusal valueLimit (sheet c) ≡ 0
+accepted c = sym (c .before .sheet-refusal .ensures) ∙ c .if1 .left
+
+-- .. and its bytes have room in the array
+few : (c : tie.Else1) → length (sheetBytes (sheet c)) ≤ 354
+few c = sheet-upto _ (fields-right valueLimit _ (accepted c))
 
 table-requires : tie.Need-table-requires
 table-requires c κs = search needs
@@ -20,33 +38,38 @@ returns c =
     let a = c .before .before .before .before .before .args in
     write-refused (counted (a .sheet)) (a .buffer .now) (c .before .sheet-refusal .ensures) (c .if1 .taken)
 
-sheet-length-requires : tie.Need-sheet-length-requires
-sheet-length-requires c κs =
-    let a = c .before .before .before .before .before .args in
-    fields-right valueLimit (counted (a .sheet)) (sym (c .before .sheet-refusal .ensures) ∙ c .if1 .left)
+slice-aggregate-put-sheet : tie.Need-slice-aggregate-put-sheet
+slice-aggregate-put-sheet c = search needs
+
+put-sheet-requires : tie.Need-put-sheet-requires
+put-sheet-requires c κs = (fields-right valueLimit _ (accepted (c .before)), few (c .before))
 
 returns-2 : tie.Need-returns-2
 returns-2 c =
-    let a = c .before .before .before .before .before .before .before .args in
-    refused-short (counted (a .sheet)) (a .buffer .now) (sym (c .before .before .before .sheet-refusal .ensures) ∙ c .before .before .if1 .left)
-    (omega (arith, c .if2 .taken, c .before .sheet-length .ensures))
+    let put = c .before .before in
+    refused-short _ (accepted (put .before .before)) (put .put-sheet .ensures) _ (c .if2 .taken)
 
-put-sheet-requires : tie.Need-put-sheet-requires
-put-sheet-requires c κs =
-    let a = c .before .before .before .before .before .before .before .before .args in
-    let accepted = sym (c .before .before .before .before .sheet-refusal .ensures) ∙ c .before .before .before .if1 .left in
-    (fields-right valueLimit (counted (a .sheet)) accepted, omega (arith, c .before .if2 .left, c .before .before .sheet-length .ensures))
+array-share-prefix-bytes : tie.Need-array-share-prefix-bytes
+array-share-prefix-bytes c =
+    let put = c .before .before .before in
+    let room = few (put .before .before) in
+    omega (arith, laid-next (put .put-sheet .ensures), laid-length (put .put-sheet .ensures), room)
+
+slice-aggregate-put-text : tie.Need-slice-aggregate-put-text
+slice-aggregate-put-text c = sym (length-take-le _ _ (array-share-prefix-bytes (c .before)))
+
+put-text-requires : tie.Need-put-text-requires
+put-text-requires c κs = omega (arith, slice-aggregate-put-text c, c .before .before .if2 .left)
 
 same-length : tie.Need-same-length
 same-length c = search needs
 
 returns-3 : tie.Need-returns-3
 returns-3 c =
-    let a = c .before .before .before .before .before .before .before .before .before .before .before .args in
-    let refusal = c .before .before .before .before .before .before .before .sheet-refusal in
-    write-done (counted (a .sheet)) (sym (refusal .ensures) ∙ c .before .before .before .before .before .before .if1 .left)
-    (omega (arith, c .before .before .before .before .if2 .left, c .before .before .before .before .before .sheet-length .ensures))
-    (c .before .before .put-sheet .ensures)
+    let fits = c .before .before .before .before .before in
+    let put = fits .before .before in
+    write-done _ (accepted (put .before .before)) (put .put-sheet .ensures) (few (put .before .before)) (fits .if2 .left)
+    (c .before .before .put-text .ensures)
 
 pub write-spec : {M : Type 1} → statement M
 write-spec =
@@ -55,8 +78,11 @@ write-spec =
     table-requires
     sheet-refusal-requires
     returns
-    sheet-length-requires
-    returns-2
+    slice-aggregate-put-sheet
     put-sheet-requires
+    returns-2
+    array-share-prefix-bytes
+    slice-aggregate-put-text
+    put-text-requires
     same-length
     returns-3)

@@ -5,7 +5,10 @@ use native.Mathlib.Omega.{arith}
 use borrow.Fn.Kinds.{In}
 use borrow.Fn.PlainCycle.{Measures, is, falls, and}
 use lib.ListN.{length-set}
-use Rattle.decimals.proofs.Digits.{last-inside, last-laid, others-asked, more-inside, more-laid}
+use Rattle.laws.proofs.Codes.{rest-shorter}
+use Rattle.laws.proofs.Listing.{digits-last, digits-more}
+use Rattle.buffers.proofs.Laid.{byte-inside, byte-laid, then-byte-inside, then-byte-laid}
+use Rattle.decimals.proofs.Digits.{several-length}
 use Rattle.decimals.proofs.decimal.put_in.Reads as put-in
 use Rattle.decimals.proofs.decimal.put_in.Kinds as put-in-kinds
 use Rattle.decimals.proofs.decimal.+put_in.Lts-put_in as put-in-lts
@@ -30,7 +33,7 @@ put-in-cast-buffer t c = omega arith
 put-in-slice-write-buffer : (t : ℕ) → put-in-lts.Need-slice-write-buffer (put-in-below t, put-in.Post) (put-in-at t) put-in.Post
 put-in-slice-write-buffer t c =
     let start = c .before .before in
-    last-inside (start .args .at) (start .args .buffer .now) (start .pre .1) (c .if1 .taken)
+    byte-inside (start .args .at) (start .args .buffer .now) (start .pre .1 .2) (digits-last _ _ (start .pre .1 .0) (c .if1 .taken))
 
 put-in-add-result : (t : ℕ) → put-in-lts.Need-add-result (put-in-below t, put-in.Post) (put-in-at t) put-in.Post
 put-in-add-result t c = omega (arith, put-in-slice-write-buffer t c)
@@ -41,16 +44,19 @@ put-in-same-length t c = simp length-set
 put-in-returns : (t : ℕ) → put-in-lts.Need-returns (put-in-below t, put-in.Post) (put-in-at t) put-in.Post
 put-in-returns t c =
     let start = c .before .before in
-    last-laid (start .args .at) (start .args .buffer .now) (start .pre .1) (c .if1 .taken)
+    byte-laid (start .args .at) (start .args .buffer .now) (start .pre .1 .2) (digits-last _ _ (start .pre .1 .0) (c .if1 .taken))
 
 put-in-sub-put-in : (t : ℕ) → put-in-lts.Need-sub-put-in (put-in-below t, put-in.Post) (put-in-at t) put-in.Post
 put-in-sub-put-in t c = c .before .before .pre .1 .0
 
 put-in-put-in-requires : (t : ℕ) → put-in-lts.Need-put-in-requires (put-in-below t, put-in.Post) (put-in-at t) put-in.Post
 put-in-put-in-requires t c κs =
-    let start = c .before .before .before in (
+    let start = c .before .before .before in
+    let a = start .args in
+    let more = c .before .if1 .left in
+    let short = rest-shorter 10 (a .most) (a .x) (omega arith) more (start .pre .1 .1) in (
       omega (arith, start .pre .0, start .pre .1 .0),
-      others-asked (start .args .at) (start .args .buffer .now) (start .pre .1) (c .before .if1 .left),
+      (short .0, short .1, omega (arith, start .pre .1 .2, several-length (a .most) (a .x) (start .pre .1 .0) more)),
     )
 
 put-in-add-buffer-2 : (t : ℕ) → put-in-lts.Need-add-buffer-2 (put-in-below t, put-in.Post) (put-in-at t) put-in.Post
@@ -62,8 +68,8 @@ put-in-cast-buffer-2 t c = omega arith
 put-in-slice-write-buffer-2 : (t : ℕ) → put-in-lts.Need-slice-write-buffer-2 (put-in-below t, put-in.Post) (put-in-at t) put-in.Post
 put-in-slice-write-buffer-2 t c =
     let start = c .before .before .before .before .before .before in
-    more-inside (start .args .at) (start .args .buffer .now) (start .pre .1) (c .before .before .before .before .if1 .left)
-    (c .before .before .put-in .ensures)
+    let whole = digits-more _ _ (start .pre .1 .0) (c .before .before .before .before .if1 .left) in
+    then-byte-inside (start .args .at) (start .args .buffer .now) (start .pre .1 .2) _ _ whole (c .before .before .put-in .ensures)
 
 put-in-add-result-2 : (t : ℕ) → put-in-lts.Need-add-result-2 (put-in-below t, put-in.Post) (put-in-at t) put-in.Post
 put-in-add-result-2 t c = omega (arith, put-in-slice-write-buffer-2 t c)
@@ -74,8 +80,8 @@ put-in-same-length-2 t c = simp length-set (c .before .before .put-in .kept .1 .
 put-in-returns-2 : (t : ℕ) → put-in-lts.Need-returns-2 (put-in-below t, put-in.Post) (put-in-at t) put-in.Post
 put-in-returns-2 t c =
     let start = c .before .before .before .before .before .before in
-    more-laid (start .args .at) (start .args .buffer .now) (start .pre .1) (c .before .before .before .before .if1 .left)
-    (c .before .before .put-in .ensures)
+    let whole = digits-more _ _ (start .pre .1 .0) (c .before .before .before .before .if1 .left) in
+    then-byte-laid (start .args .at) (start .args .buffer .now) (start .pre .1 .2) _ _ whole (c .before .before .put-in .ensures)
 
 pub +put-in-spec : {M : Type 1} → statement M
 +put-in-spec =

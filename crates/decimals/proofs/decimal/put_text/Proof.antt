@@ -4,7 +4,7 @@ use native.Mathlib.Omega.{arith}
 use lib.ListN.{length, take}
 use Rattle.buffers.specs.Laid.{Laid}
 use Rattle.buffers.proofs.Laid.{laid-none, laid-length}
-use Rattle.decimals.proofs.Texts.{text-kept, text-inside, text-laid, text-whole}
+use Rattle.decimals.proofs.Texts.{text-inside, text-laid, text-whole}
 use Rattle.decimals.proofs.decimal.put_text.Statement.{statement}
 use Rattle.decimals.proofs.decimal.put_text.Tie as tie
 
@@ -27,9 +27,7 @@ slice-write-buffer c =
 
 add-next : tie.Need-add-next Inv-loop μ-loop
 add-next c =
-    let start = c .before .before .before in
-    let kept = text-kept (start .args .text .now) (c .before .loop-test .taken) (c .before .before .loop .inv .1) (start .pre) in
-    omega (arith, slice-write-buffer c, kept, start .good .0 .0)
+    omega (arith, slice-write-buffer c, laid-length (c .before .before .loop .inv .1), c .before .before .before .good .0 .0)
 
 add-place : tie.Need-add-place Inv-loop μ-loop
 add-place c = omega arith
@@ -50,7 +48,7 @@ returns c =
     text-whole (start .args .text .now) (c .loop-test .left) (c .before .loop .inv .1)
 
 same-length : tie.Need-same-length Inv-loop μ-loop
-same-length c = laid-length (returns c) (c .before .before .pre)
+same-length c = laid-length (returns c)
 
 pub put-text-spec : {M : Type 1} → statement M
 put-text-spec =

@@ -7,7 +7,7 @@ use borrow.Author.Needs.{needs}
 use lib.ListN.{length, length-append}
 use Rattle.model.specs.Listing.{text, decimal, refusedLine}
 use Rattle.buffers.specs.Laid.{Laid}
-use Rattle.buffers.proofs.Laid.{laid-length, laid-then, room-then}
+use Rattle.buffers.proofs.Laid.{laid-length, laid-then}
 use Rattle.decimals.proofs.Digits.{digits-upto}
 use Rattle.decimals.proofs.refusal.put_refused.Statement.{statement}
 use Rattle.decimals.proofs.refusal.put_refused.Tie as tie
@@ -28,16 +28,7 @@ any-fits x h at-word room = omega (arith, digits-upto 20 20 x (omega arith) h)
 feed-fits : (x : ℕ) {at next : ℕ} {before after : List ℕ} → x < 10 ^ 20 → at ≤ 8 → 29 ≤ length before →
     Laid at (decimal x) before after next → next + 1 ≤ length after
 feed-fits x h at-word room laid =
-    omega (arith, laid .next-is, laid-length laid (any-fits x h at-word room), digits-upto 20 20 x (omega arith) h)
-
--- where a part begins, there is room for the line from it on
-
-room-line : (c : tie.Start) → 0 + length (text "refused " ++ fromNumber c) ≤ length (c .args .buffer .now)
-room-line c = omega (arith, enough c, c .pre)
-
-room-number : (c : tie.After-put-text) → c .put-text .result + length (fromNumber (c .before .before .before .before)) ≤ length (c .put-text .last .0)
-room-number c =
-    room-then {l = text "refused "} (fromNumber (c .before .before .before .before)) (c .put-text .ensures) (room-line (c .before .before .before .before))
+    omega (arith, laid .next-is, laid-length laid, digits-upto 20 20 x (omega arith) h)
 
 slice-aggregate-put-text : tie.Need-slice-aggregate-put-text
 slice-aggregate-put-text c = search needs
@@ -71,8 +62,7 @@ returns c =
     let number = feed .before .before .before .before .before in
     let word = number .before .before .before .before in
     let start = word .before .before .before .before in
-    let from-number = laid-then (number .put-decimal .ensures) (feed .put-text2 .ensures) (room-number word) in
-    let line = laid-then {l = text "refused "} (word .put-text .ensures) from-number (room-line start) in
+    let line = laid-then {l = text "refused "} (word .put-text .ensures) (laid-then (number .put-decimal .ensures) (feed .put-text2 .ensures)) in
     (line, omega (arith, line .next-is, enough start))
 
 pub put-refused-spec : {M : Type 1} → statement M
