@@ -46,4 +46,4 @@ module _ (s : Counted) (least : ℕ) (plan : List ℕ) where
     unfolding list
     listing-done {before = before} room laid =
         laid-written (listRefusal s least plan (length before)) (list-fits s least plan (length before) accepted (rw whole at room))
-        (rw whole at laid)
+        (rw whole at room) (rw whole at laid)

@@ -1,6 +1,6 @@
 -- That a plan has the rows that the lines ask for.
-use Prim.Native.Nat.{ℕ}
-use mathlib.Core.Path.{_≡_}
+use Prim.Native.Nat.{ℕ, _*_}
+use mathlib.Core.Path.{_≡_, ap}
 use mathlib.Core.List.{List}
 use native.Mathlib.Omega.{arith}
 use lib.ListN.{length}
@@ -20,5 +20,5 @@ rows-accepted s {plan = plan} e queues-are =
     record {
       few-queues = omega (arith, sheet .queues-high);
       few-slots = sheet .ranged .horizon-high;
-      rows = rw queues-are (row .1);
+      rows = omega (arith, row .1, ap (λ (n : ℕ). s .horizon * n) queues-are);
     }

@@ -17,7 +17,8 @@ use Rattle.model.specs.Refusal.{sheetRefusal, N, valueLimit}
 use Rattle.model.proofs.Refusal.{accepted, power-fits}
 use Rattle.model.proofs.Tests.{and-right, check-zero, then-right, turn-times}
 use Rattle.listing.specs.Calls.{IsListed}
-use Rattle.lines.specs.Lines.{bytesFrom, lineAt}
+use Rattle.layout.specs.Places.{placeIn, byteIn}
+use Rattle.lines.specs.Lines.{lineAt}
 use Rattle.decimals.proofs.Digits.{digits-upto}
 use Rattle.lines.proofs.Heads.{header-length}
 use Rattle.lines.proofs.Rows.{line-length}
@@ -44,19 +45,20 @@ listed-within s least plan before call =
     (within (listRefusal s least plan (length before)) (listing s least plan) before (listing-fits s least plan (length before)))
 
 -- plan bytes: each has a space and at most three digits
-bytes-upto : (plan : List ℕ) (first queues : ℕ) → AreBytes plan → length (bytesListed (bytesFrom plan first) queues) ≤ queues * 4
+bytes-upto : (plan : List ℕ) (queues slot : ℕ) → AreBytes plan → length (bytesListed (byteIn queues plan slot) queues) ≤ queues * 4
 unfolding bytesListed
-bytes-upto plan first queues are =
-    turn-times _ queues 4 (λ i l. omega (arith, digits-upto 20 3 (bytesFrom plan first i) (omega arith) (omega (arith, are (first + i)))))
+bytes-upto plan queues slot are =
+    turn-times _ queues 4
+    (λ i l. omega (arith, digits-upto 20 3 (byteIn queues plan slot i) (omega arith) (omega (arith, are (placeIn queues slot i)))))
 
 -- a line: its slot has at most three digits, and two characters stand beside them and the plan bytes
 line-upto : (plan : List ℕ) (queues slot : ℕ) → AreBytes plan → slot < 200 → length (lineAt plan queues slot) ≤ 5 + 4 * queues
 line-upto plan queues slot are h =
     omega (
       arith,
-      line-length plan queues slot {first = slot * queues} (omega arith) refl refl,
+      line-length plan queues slot refl refl,
       digits-upto 20 3 slot (omega arith) (omega arith),
-      bytes-upto plan (slot * queues) queues are,
+      bytes-upto plan queues slot are,
     )
 
 -- the header: of its numbers the first has at most 5 digits, the second 19, the third 20

@@ -1,6 +1,6 @@
-// The call: the listing of a planned sheet. How long it is is worked out first, so that a refused call touches nothing.
+// The call: the listing of a planned sheet. Its length is worked out before anything is written, so that a refused call touches nothing.
 use counts::table;
-use limits::queues_of;
+use layout::row_refusal;
 use lines::Header;
 use lines::header_length;
 use lines::lines_length;
@@ -8,7 +8,7 @@ use lines::put_header;
 use lines::put_lines;
 use lines::scale_of;
 use model::Sheet;
-use sheets::row_refusal;
+use sheets::sizes_of;
 ghost use mathlib.Core.Path.{_≡_};
 ghost use Prim.Native.Nat.{_≤_};
 ghost use lib.ListN.{length};
@@ -53,10 +53,10 @@ pub fn list(sheet: Sheet, least: u64, plan: &[u8], buffer: &mut [u8]) -> Listed
     if number != 0 {
         return Listed { number, length: 0 };
     }
-    let queues = queues_of(&counts, sheet);
+    let sizes = sizes_of(&counts, sheet);
     let scale = scale_of(sheet);
     let head = Header {
-        queues,
+        queues: sizes.queues,
         scale,
         least,
     };

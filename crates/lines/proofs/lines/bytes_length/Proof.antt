@@ -7,6 +7,7 @@ use Rattle.model.proofs.Tests.{turn-next}
 use Rattle.model.specs.Listing.{bytesListed}
 use Rattle.model.specs.Tests.{inTurn}
 use Rattle.layout.specs.Places.{byteIn}
+use Rattle.lines.specs.Lines.{byteListed}
 use Rattle.lines.proofs.lines.bytes_length.Statement.{statement}
 use Rattle.lines.proofs.lines.bytes_length.Tie as tie
 
@@ -42,7 +43,7 @@ loop-again : tie.Need-loop-again Inv-loop μ-loop
 unfolding bytesListed
 loop-again c =
     let l = c .before .before .before .loop in
-    (omega arith, turn-next _ (l .queue) (l .inv .1) (c .byte-length .ensures .0), omega (arith, l .inv .2, c .byte-length .ensures .1))
+    (omega arith, turn-next _ (l .queue) (l .inv .1) (c .byte-length .ensures .0 ∙ ap (λ b. length (byteListed b)) (c .before .byte-at .ensures)), omega (arith, l .inv .2, c .byte-length .ensures .1))
 
 returns : tie.Need-returns Inv-loop μ-loop
 returns c =

@@ -29,9 +29,9 @@ right : (c : tie.Else1) → sheetRefusal valueLimit (sheet c) ≡ 0
 right c = row-accepted (sheet c) _ (accepted c) .0
 
 -- so the plan has every row
-rows : (c : tie.After-queues-of) →
-    HasRows (start (c .before .before) .args .plan .now) (c .queues-of .result) (sheet (c .before .before) .horizon)
-rows c = rows-accepted (sheet (c .before .before)) (accepted (c .before .before)) (c .queues-of .ensures)
+rows : (c : tie.After-sizes-of) →
+    HasRows (start (c .before .before) .args .plan .now) (c .sizes-of .result .queues) (sheet (c .before .before) .horizon)
+rows c = rows-accepted (sheet (c .before .before)) (accepted (c .before .before)) (c .sizes-of .ensures .queues-is)
 
 table-requires : tie.Need-table-requires
 table-requires c κs = search needs
@@ -44,8 +44,8 @@ returns c =
     let a = c .before .before .before .before .before .before .args in
     listing-refused (counted (a .sheet)) (a .least) (a .plan .now) (a .buffer .now) (c .before .row-refusal .ensures) (c .if1 .taken)
 
-queues-of-requires : tie.Need-queues-of-requires
-queues-of-requires c κs =
+sizes-of-requires : tie.Need-sizes-of-requires
+sizes-of-requires c κs =
     (c .before .before .before .before .table .ensures, fields-right valueLimit (sheet (c .before)) (right (c .before)))
 
 scale-of-requires : tie.Need-scale-of-requires
@@ -59,7 +59,7 @@ returns-2 c =
     let tested = c .before .before .before .before .before in
     let a = start tested .args in
     listing-short (sheet tested) (a .least) (a .plan .now) (accepted tested)
-    (c .before .before .before .queues-of .ensures) (c .before .before .scale-of .ensures) (a .buffer .now)
+    (c .before .before .before .sizes-of .ensures .queues-is) (c .before .before .scale-of .ensures) (a .buffer .now)
     (omega (arith, c .if2 .taken, c .before .listing-length .ensures))
 
 put-listing-requires : tie.Need-put-listing-requires
@@ -77,7 +77,7 @@ returns-3 c =
     let tested = measured .before .before .before .before in
     let a = start tested .args in
     listing-done (sheet tested) (a .least) (a .plan .now) (accepted tested)
-    (measured .before .before .queues-of .ensures) (measured .before .scale-of .ensures)
+    (measured .before .before .sizes-of .ensures .queues-is) (measured .before .scale-of .ensures)
     (omega (arith, put .before .before .if2 .left, measured .listing-length .ensures)) (put .put-listing .ensures)
 
 pub list-spec : {M : Type 1} → statement M
@@ -87,7 +87,7 @@ list-spec =
     table-requires
     row-refusal-requires
     returns
-    queues-of-requires
+    sizes-of-requires
     scale-of-requires
     listing-length-requires
     returns-2

@@ -37,9 +37,7 @@ same-length c = search needs
 
 returns : tie.Need-returns
 returns c =
-    let start = c .before .before .before .before .before .before .before .before .before .before in
     laid-then (c .before .before .before .before .before .before .put-header .ensures) (c .before .before .put-lines .ensures)
-    (room start)
 
 pub put-listing-spec : {M : Type 1} → statement M
 put-listing-spec = tie.close (tie.spec put-header-requires put-lines-requires same-length returns)
