@@ -121,7 +121,7 @@ fn print_row(row: &[u8], kind: usize) {
 // `row SLOT` and `sum row SLOT`, and `speed`.
 fn look(numbers: &[u64; 816947], sheet: Sheet, plan: &[u8], kind: usize, slot: u32) {
     if kind == CALL_ROW || kind == SUM_ROW {
-        print_row(planner::row(sheet, plan, slot), kind);
+        print_row(layout::row(sheet, plan, slot), kind);
         return;
     }
     if kind == CALL_SPEED {

@@ -31,7 +31,7 @@ fn met(counts: &[u32; 2352], largest: u32, bound: usize, queue: [u32; 6], walked
     requires { ⌜ HoldsCounts (now counts) × Ranges largest bound × (walked .queues < 1000000) × (walked .right ≤ walked .queues) ⌝ }
     ensures { λ r. ⌜ (r .queues ≤ walked .queues + 1) × (r .right ≤ r .queues) ⌝ }
 {
-    if !slot::bearable(largest, bound, queue) {
+    if !slot::bearable_in(largest, bound, queue) {
         return walked;
     }
     let queues = walked.queues + 1;

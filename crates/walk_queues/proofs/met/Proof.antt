@@ -7,8 +7,8 @@ use borrow.Author.Needs.{needs}
 use Rattle.walk_queues.proofs.met.Statement.{statement}
 use Rattle.walk_queues.proofs.met.Tie as tie
 
-bearable-requires : tie.Need-bearable-requires
-bearable-requires c κs = search needs
+bearable-in-requires : tie.Need-bearable-in-requires
+bearable-in-requires c κs = search needs
 
 returns : tie.Need-returns
 returns c = search needs
@@ -19,13 +19,13 @@ add-queues c = search needs
 stands-at-requires : tie.Need-stands-at-requires
 stands-at-requires c κs =
     let given = c .before .before .before in
-    let held = not-false (c .before .before .bearable .result) (c .before .if1 .left) in (
+    let held = not-false (c .before .before .bearable-in .result) (c .before .if1 .left) in (
       given .pre .0,
       record {
         ranges = given .pre .1;
         is-bearable =
             held-bearable (given .args .largest) (given .args .bound) (given .args .queue)
-            (subst T (sym (sym (c .before .before .bearable .ensures) ∙ held)) tt);
+            (subst T (sym (sym (c .before .before .bearable-in .ensures) ∙ held)) tt);
       },
     )
 
@@ -41,4 +41,4 @@ returns-3 c = search needs
 pub met-spec : {M : Type 1} → statement M
 met-spec =
     tie.close
-    (tie.spec bearable-requires returns add-queues stands-at-requires returns-2 add-right returns-3)
+    (tie.spec bearable-in-requires returns add-queues stands-at-requires returns-2 add-right returns-3)
