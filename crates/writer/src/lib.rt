@@ -113,6 +113,7 @@ fn put_sheet(buffer: &mut [u8], sheet: Sheet) -> usize
 
 // Writes a sheet. The array has room for 118 numbers of three bytes: D, the count of speeds, T and the count of jobs, two for each of nine
 // speeds and three for each of 32 jobs. (By the ranges of the fields a sheet takes 201 bytes at most; three for every number is less to prove.)
+// Where the lent buffer has room for them, the bytes are then put there as a text is.
 pub fn write(sheet: Sheet, buffer: &mut [u8]) -> Written
     ensures { λ r. ⌜ IsWritten (counted sheet) (now (buffer .entry)) (r .number) (r .length) (now (buffer .exit)) ⌝ }
 {
