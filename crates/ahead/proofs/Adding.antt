@@ -8,12 +8,12 @@ use native.Mathlib.Numerals.{add-one}
 use Rattle.process.specs.Recursion.{plus, times, sumOrNone}
 use Rattle.process.proofs.Equations.{sum-or-none-start, sum-or-none-more}
 use Rattle.process.proofs.Value.{plus-none}
-use Rattle.model.specs.Counted.{Counted, weightAt}
+use Rattle.model.specs.View.{View, weightAt}
 use Rattle.model.specs.Queue.{Queue}
 use Rattle.entry_lanes.specs.Lanes.{joined}
 use Rattle.ahead.specs.Sums.{sumTo}
 
-module _ (s : Counted) (f : Queue → Option ℕ) (v : Queue) where
+module _ (s : View) (f : Queue → Option ℕ) (v : Queue) where
   -- over no entries the sum is 0
   pub sum-begun : some 0 ≡ sumTo s f v 0
   unfolding sumTo
@@ -45,7 +45,7 @@ module _ (s : Counted) (f : Queue → Option ℕ) (v : Queue) where
       go (inr l) ih = ap (λ (r : Option ℕ). plus r (times (weightAt s n) (f (joined s v n)))) (ih l e)
 
 -- sums of what is the same are the same
-pub sum-same : (s : Counted) (f g : Queue → Option ℕ) (v : Queue) (n : ℕ) → ((j : ℕ) → f (joined s v j) ≡ g (joined s v j)) →
+pub sum-same : (s : View) (f g : Queue → Option ℕ) (v : Queue) (n : ℕ) → ((j : ℕ) → f (joined s v j) ≡ g (joined s v j)) →
     sumTo s f v n ≡ sumTo s g v n
 unfolding sumTo sumOrNone
 sum-same s f g v zero same = refl

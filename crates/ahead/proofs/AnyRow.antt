@@ -12,7 +12,7 @@ use lib.ListN.{length}
 use Rattle.process.specs.Sums.{sum}
 use Rattle.process.proofs.Sums as sums
 use Rattle.process.proofs.Value.{UptoOr, uptoOr-le, sum-upto}
-use Rattle.model.specs.Counted.{Counted, weightAt, sizeAt, deadlineAt, W}
+use Rattle.model.specs.View.{View, weightAt, sizeAt, deadlineAt, W}
 use Rattle.model.specs.Queue.{Queue, NeverFalls, bearable}
 use Rattle.model.specs.Refusal.{fieldsRefusal}
 use Rattle.model.proofs.Queues.{length-arrive, listed-bearable}
@@ -34,7 +34,7 @@ use Rattle.ahead.specs.Pass.{Given, sumLeft}
 use Rattle.ahead.specs.Sums.{sumTo}
 use Rattle.ahead.proofs.Adding.{sum-same, sum-none}
 
-module _ (s : Counted) (f : Queue → Option ℕ) where
+module _ (s : View) (f : Queue → Option ℕ) where
   -- where the function is nowhere above a bound, no sum over some first entries is above the bound times W
   pub sums-upto : (most : ℕ) → ((w : Queue) → UptoOr (Unit {0}) (f w) most) → (v : Queue) (n : ℕ) → n ≤ s .jobCount →
       UptoOr (Unit {0}) (sumTo s f v n) (most * W s)
@@ -62,7 +62,7 @@ module _ (s : Counted) (f : Queue → Option ℕ) where
           same-test (bearable M (joined s v 0)) false
           (λ t. subst T e (arrive-not-bearable M v (sizeAt s 0) (deadlineAt s 0) rises t)) (λ x. absurd x)
 
-module _ (width : Width) (s : Counted) {sizes : Sizes} (m : Measured sizes) (f : Queue → Option ℕ) {next : ℕ} {values : List ℕ}
+module _ (width : Width) (s : View) {sizes : Sizes} (m : Measured sizes) (f : Queue → Option ℕ) {next : ℕ} {values : List ℕ}
     (row : RowOf width (sizes .largest) (sizes .bound) f next values) where
   after-long : (i : ℕ) → i < sizes .after → length (afterWith (sizes .largest) (sizes .bound) i) ≡ sizes .bound
   after-long i h =

@@ -9,7 +9,7 @@ use native.Mathlib.Nat.{add-zero, mul-le-mul}
 use native.Mathlib.Omega.{arith}
 use lib.Dec.{T, leb}
 use lib.ListN.{length, getD}
-use Rattle.model.specs.Counted.{Counted, weightAt, sizeAt, deadlineAt}
+use Rattle.model.specs.View.{View, weightAt, sizeAt, deadlineAt}
 use Rattle.model.specs.Queue.{Queue, total, bearable, queueCount, numberOf}
 use Rattle.model.proofs.Queues.{length-arrive, listed-bearable, number-below}
 use Rattle.model.proofs.Refusal.{Ranged, ranged}
@@ -35,7 +35,7 @@ use Rattle.entry_lanes.proofs.Lanes.{lane-says, steps-each, steps-past}
 use Rattle.ahead.specs.Pass.{Given, Within, sumLeft, stepped}
 use Rattle.ahead.proofs.Adding.{sum-none}
 
-module _ {width : Width} {s : Counted} {sizes : Sizes} {lanes : List ℕ} {next : ℕ} {values : List ℕ}
+module _ {width : Width} {s : View} {sizes : Sizes} {lanes : List ℕ} {next : ℕ} {values : List ℕ}
     (given : Given width s sizes lanes next values) where
   abbrev M : ℕ
   M = sizes .largest

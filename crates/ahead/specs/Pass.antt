@@ -4,7 +4,7 @@ use mathlib.Core.Path.{_≡_}
 use mathlib.Core.List.{List}
 use mathlib.Core.Option.{Option}
 use lib.ListN.{length}
-use Rattle.model.specs.Counted.{Counted}
+use Rattle.model.specs.View.{View}
 use Rattle.model.specs.Refusal.{fieldsRefusal}
 use Rattle.queues.specs.Blocks.{startOf, lowestOf, risen}
 use Rattle.model.specs.Width.{Width}
@@ -16,13 +16,13 @@ use Rattle.entry_lanes.specs.Lanes.{firstAfter, stepsTo, EntryTable}
 use Rattle.ahead.specs.Sums.{sumTo}
 
 -- what is ahead of the queue after a slot with number i, over the first n entries, by the row that begins at place `next`
-abbrev pub sumLeft : Width → Counted → Sizes → ℕ → List ℕ → ℕ → ℕ → Option ℕ
+abbrev pub sumLeft : Width → View → Sizes → ℕ → List ℕ → ℕ → ℕ → Option ℕ
 sumLeft width s sizes next values i n =
     sumTo s (valueInRow width (sizes .largest) values next) (afterWith (sizes .largest) (sizes .bound) i) n
 
 -- what the pass is given: a sheet whose fields are in range, its sizes and its table, and a row of which no sum over some first entries
 -- reaches the limit of a value
-pub record Given (width : Width) (s : Counted) (sizes : Sizes) (lanes : List ℕ) (next : ℕ) (values : List ℕ) : Type 0 where
+pub record Given (width : Width) (s : View) (sizes : Sizes) (lanes : List ℕ) (next : ℕ) (values : List ℕ) : Type 0 where
   pub fields : fieldsRefusal s ≡ 0
   pub measured : Measured sizes
   pub table : EntryTable (sizes .largest) (sizes .bound) s lanes
@@ -39,7 +39,7 @@ abbrev pub riseOf : Sizes → ℕ → ℕ → ℕ
 riseOf sizes b k = risen (sizes .bound * sizes .largest + 1 - lowestOf (sizes .largest) (pred (sizes .bound)) b) k
 
 -- and every arrival leads to a bearable queue there
-pub record Stepped (s : Counted) (sizes : Sizes) (b k far : ℕ) : Type 0 where
+pub record Stepped (s : View) (sizes : Sizes) (b k far : ℕ) : Type 0 where
   pub within : Within sizes b k
   pub far-is : far ≡ riseOf sizes b k
   pub before-end : k < stepsTo (sizes .largest) (sizes .bound) s (firstAfter (sizes .largest) (sizes .bound) b) (s .jobCount)

@@ -3,10 +3,10 @@
 use Prim.Native.Nat.{ℕ}
 use mathlib.Core.Option.{Option}
 use Rattle.process.specs.Recursion.{times, sumOrNone}
-use Rattle.model.specs.Counted.{Counted, weightAt}
+use Rattle.model.specs.View.{View, weightAt}
 use Rattle.model.specs.Queue.{Queue}
 use Rattle.entry_lanes.specs.Lanes.{joined}
 
 -- the weighted sum over the first n entries
-unfoldable pub sumTo : Counted → (Queue → Option ℕ) → Queue → ℕ → Option ℕ
+unfoldable pub sumTo : View → (Queue → Option ℕ) → Queue → ℕ → Option ℕ
 sumTo s f v n = sumOrNone (λ j. times (weightAt s j) (f (joined s v j))) n

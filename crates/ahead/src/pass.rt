@@ -5,7 +5,7 @@ use rows::line_at;
 use sheets::Sizes;
 ghost use Prim.Native.Nat.{suc, pred, _+_, _*_, _≤_, _<_};
 ghost use lib.ListN.{length};
-ghost use Rattle.model.specs.Counted.{counted};
+ghost use Rattle.model.specs.View.{viewOf};
 ghost use Rattle.queues.specs.Blocks.{InBlock};
 ghost use Rattle.buffers.specs.Fills.{Fills, FillsWhere};
 ghost use Rattle.value.specs.Narrow.{width};
@@ -22,10 +22,10 @@ fn fill_block(
     block: usize,
     ahead: &mut [u64],
 )
-    requires { ⌜ Given width (counted sheet) sizes (now lanes) next (now values) × (block < sizes .blocks) ×
+    requires { ⌜ Given width (viewOf sheet) sizes (now lanes) next (now values) × (block < sizes .blocks) ×
         (sizes .after * width .places ≤ length (now ahead)) ⌝ }
     ensures { λ r. ⌜ FillsWhere (width .places) (valueIn width)
-        (λ i. sumLeft width (counted sheet) sizes next (now (values .entry)) i (sheet .«job_count»)) 0
+        (λ i. sumLeft width (viewOf sheet) sizes next (now (values .entry)) i (sheet .«job_count»)) 0
         (InBlock (sizes .largest) (pred (sizes .bound)) block (suc (pred (sizes .bound) * sizes .largest)))
         (now (ahead .entry)) (now (ahead .exit)) ⌝ }
 {
@@ -52,9 +52,9 @@ pub fn fill(
     values: &[u64],
     ahead: &mut [u64],
 )
-    requires { ⌜ Given width (counted sheet) sizes (now lanes) next (now values) × (sizes .after * width .places ≤ length (now ahead)) ⌝ }
+    requires { ⌜ Given width (viewOf sheet) sizes (now lanes) next (now values) × (sizes .after * width .places ≤ length (now ahead)) ⌝ }
     ensures { λ r. ⌜ Fills (width .places) (valueIn width)
-        (λ i. sumLeft width (counted sheet) sizes next (now (values .entry)) i (sheet .«job_count»)) 0
+        (λ i. sumLeft width (viewOf sheet) sizes next (now (values .entry)) i (sheet .«job_count»)) 0
         (sizes .after) (now (ahead .entry)) (now (ahead .exit)) ⌝ }
 {
     let mut block = 0;

@@ -5,7 +5,7 @@ use sheets::Sizes;
 use value::Value;
 ghost use mathlib.Core.Path.{_≡_};
 ghost use Prim.Native.Nat.{_<_};
-ghost use Rattle.model.specs.Counted.{counted};
+ghost use Rattle.model.specs.View.{viewOf};
 ghost use Rattle.value.specs.Narrow.{width, valueOf};
 ghost use Rattle.rows.specs.Rows.{valueInRow, afterWith};
 ghost use Rattle.entry_lanes.specs.Lanes.{joined};
@@ -24,10 +24,10 @@ fn value_on(
     far: u32,
     place: usize,
 ) -> Value
-    requires { ⌜ Given width (counted sheet) sizes (now lanes) next (now values) × Stepped (counted sheet) sizes block steps far ×
+    requires { ⌜ Given width (viewOf sheet) sizes (now lanes) next (now values) × Stepped (viewOf sheet) sizes block steps far ×
         (place < sheet .«job_count») ⌝ }
     ensures { λ r. ⌜ valueOf r ≡ valueInRow width (sizes .largest) (now (values .entry)) next
-        (joined (counted sheet) (afterWith (sizes .largest) (sizes .bound) (stepped sizes block steps)) place) ⌝ }
+        (joined (viewOf sheet) (afterWith (sizes .largest) (sizes .bound) (stepped sizes block steps)) place) ⌝ }
 {
     let at = line_at(32, sheet.job_count, block);
     let on = lanes[at + 3 + place] + far - steps * lanes[32 + place];
@@ -45,8 +45,8 @@ fn sum_of(
     steps: u32,
     far: u32,
 ) -> Value
-    requires { ⌜ Given width (counted sheet) sizes (now lanes) next (now values) × Stepped (counted sheet) sizes block steps far ⌝ }
-    ensures { λ r. ⌜ valueOf r ≡ sumLeft width (counted sheet) sizes next (now (values .entry)) (stepped sizes block steps)
+    requires { ⌜ Given width (viewOf sheet) sizes (now lanes) next (now values) × Stepped (viewOf sheet) sizes block steps far ⌝ }
+    ensures { λ r. ⌜ valueOf r ≡ sumLeft width (viewOf sheet) sizes next (now (values .entry)) (stepped sizes block steps)
         (sheet .«job_count») ⌝ }
 {
     let mut sum = value::of(0);
@@ -73,9 +73,9 @@ pub fn sum_at(
     steps: u32,
     far: u32,
 ) -> Value
-    requires { ⌜ Given width (counted sheet) sizes (now lanes) next (now values) × Within sizes block steps ×
+    requires { ⌜ Given width (viewOf sheet) sizes (now lanes) next (now values) × Within sizes block steps ×
         (far ≡ riseOf sizes block steps) ⌝ }
-    ensures { λ r. ⌜ valueOf r ≡ sumLeft width (counted sheet) sizes next (now (values .entry)) (stepped sizes block steps)
+    ensures { λ r. ⌜ valueOf r ≡ sumLeft width (viewOf sheet) sizes next (now (values .entry)) (stepped sizes block steps)
         (sheet .«job_count») ⌝ }
 {
     if lanes[line_at(32, sheet.job_count, block) + 2] <= steps {

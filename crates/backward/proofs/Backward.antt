@@ -10,7 +10,7 @@ use native.Mathlib.Nat.{add-mul, mul-le-mul-right, one-mul, suc-mul, eq-or-lt-of
 use native.Mathlib.Omega.{arith}
 use lib.ListN.{length, getD}
 use Rattle.process.specs.Recursion.{plus, times}
-use Rattle.model.specs.Counted.{Counted, W, M}
+use Rattle.model.specs.View.{View, W, M}
 use Rattle.model.specs.Plan.{queueAt, placeAt, valuesNeeded, valuePlaces, planNeeded}
 use Rattle.model.specs.Queue.{queueCount}
 use Rattle.model.specs.Refusal.{N}
@@ -37,7 +37,7 @@ scale-next w k {all = all} {scale = scale} same e d =
     ap (λ (n : ℕ). some n) (omega (arith, ap (λ (n : ℕ). n * w ^ k) same, pow-succ' w k))
 
 -- and it fits while a slot is left
-pub scale-room : (width : Width) (s : Counted) → Accepted (width .limit) s → (k : ℕ) {all : ℕ} {first scale : Option ℕ} →
+pub scale-room : (width : Width) (s : View) → Accepted (width .limit) s → (k : ℕ) {all : ℕ} {first scale : Option ℕ} →
     k < s .horizon → all ≡ W s → first ≡ some 0 → scale ≡ some (W s ^ k) → Fits width (plus first (times all scale))
 scale-room width s a k h same e d =
     subst (Fits width) (sym (scale-next (W s) k same e d)) (scale-fits s a k h)
@@ -45,7 +45,7 @@ scale-room width s a k h same e d =
 -- where the rows stand: row t from place t times N
 
 -- of an accepted sheet: its queues and its slots are few enough for a place to be worked out
-pub sizes-small : (s : Counted) {sizes : Sizes} {limit : ℕ} → Accepted limit s → Sized s sizes → (sizes .queues ≤ 65535) × (s .horizon ≤ 200)
+pub sizes-small : (s : View) {sizes : Sizes} {limit : ℕ} → Accepted limit s → Sized s sizes → (sizes .queues ≤ 65535) × (s .horizon ≤ 200)
 sizes-small s a sized = (omega (arith, sized .queues-is, a .queues-high), a .ranged .horizon-high)
 
 -- a row begins where an earlier one has ended, or behind that
@@ -67,7 +67,7 @@ module _ (horizon left n this : ℕ) (h : left < horizon) (e : this ≡ (horizon
 
 -- a slot that has k left after it: its rows of values and of plan bytes begin k + 1 rows before where the end row does, and the next
 -- slot's row of values right behind its own
-pub record SlotRows (s : Counted) (k left this next row : ℕ) : Type 0 where
+pub record SlotRows (s : View) (k left this next row : ℕ) : Type 0 where
   pub left-low : k < s .horizon
   pub left-is : left ≡ k
   pub next-is : next ≡ this + N s
@@ -75,7 +75,7 @@ pub record SlotRows (s : Counted) (k left this next row : ℕ) : Type 0 where
   pub row-is : row + suc k * N s ≡ s .horizon * N s
 
 -- so does the slot that the code makes
-pub slot-rows : (s : Counted) (k : ℕ) {left this next row queues : ℕ} → queues ≡ N s → k < s .horizon → left ≡ k → next ≡ this + queues →
+pub slot-rows : (s : View) (k : ℕ) {left this next row queues : ℕ} → queues ≡ N s → k < s .horizon → left ≡ k → next ≡ this + queues →
     this + suc k * queues ≡ s .horizon * queues → row + suc k * queues ≡ s .horizon * queues → SlotRows s k left this next row
 slot-rows s k {this = this} {row = row} e low left-is next-is this-is row-is =
     record {
@@ -87,10 +87,10 @@ slot-rows s k {this = this} {row = row} e low left-is next-is this-is row-is =
     }
 
 -- the slot that has k left after it, counted from 0
-abbrev slotWith : Counted → ℕ → ℕ
+abbrev slotWith : View → ℕ → ℕ
 slotWith s k = s .horizon - suc k
 
-module _ (s : Counted) (k : ℕ) {left this next row : ℕ} (at : SlotRows s k left this next row) where
+module _ (s : View) (k : ℕ) {left this next row : ℕ} (at : SlotRows s k left this next row) where
   -- it is one of the sheet's, and has its scale
   pub slot-in-plan : {scale : Option ℕ} → scale ≡ some (W s ^ suc k) → InPlan s left scale
   slot-in-plan e =
@@ -130,7 +130,7 @@ module _ (s : Counted) (k : ℕ) {left this next row : ℕ} (at : SlotRows s k l
   next-within = omega (arith, this-place, row-ends, suc-mul (s .horizon) (N s), at .next-is)
 
 -- one slot, where the slots behind it are planned
-module _ (width : Width) (s : Counted) (k : ℕ) {left this next row : ℕ} (at : SlotRows s k left this next row)
+module _ (width : Width) (s : View) (k : ℕ) {left this next row : ℕ} (at : SlotRows s k left this next row)
     {values₀ plan₀ values plan : List ℕ} (past : PlannedFrom width s k values₀ plan₀ values plan) where
   -- its row of values is within the lent memory
   pub values-room : valuePlaces width s ≤ length values₀ → (this + N s) * width .places ≤ length values
@@ -206,7 +206,7 @@ module _ (width : Width) (s : Counted) (k : ℕ) {left this next row : ℕ} (at 
           past .plan-right u i (omega arith) upto h
 
 -- the first pass leaves what the second one needs
-pub ahead-stands : (width : Width) (s : Counted) (k after : ℕ) {ahead₀ ahead : List ℕ} → after ≡ queueCount (M s) (pred (s .bound)) →
+pub ahead-stands : (width : Width) (s : View) (k after : ℕ) {ahead₀ ahead : List ℕ} → after ≡ queueCount (M s) (pred (s .bound)) →
     after * width .places ≤ length ahead₀ →
     Fills (width .places) (valueIn width) (λ i. aheadOf s k (queueAfter s i)) 0 after ahead₀ ahead → AheadRow width s k ahead
 ahead-stands width s k after e room filled =
@@ -218,10 +218,10 @@ ahead-stands width s k after e room filled =
 -- the end row
 
 -- with no slot left every queue of the list has a value, 0
-row-last : (s : Counted) (i : ℕ) → i < N s → valueWith s 0 (queueAt s i) ≡ some 0
+row-last : (s : View) (i : ℕ) → i < N s → valueWith s 0 (queueAt s i) ≡ some 0
 row-last s i h = value-last s (queueAt s i) (listed-bearable (M s) (s .bound) i (omega (arith, N-is s)) .1)
 
-module _ (width : Width) (s : Counted) (queues from : ℕ) (e : queues ≡ N s) (d : from ≡ s .horizon * queues + 0) where
+module _ (width : Width) (s : View) (queues from : ℕ) (e : queues ≡ N s) (d : from ≡ s .horizon * queues + 0) where
   -- it begins behind the rows of all slots
   end-place : from ≡ s .horizon * N s
   end-place = omega (arith, ap (λ (n : ℕ). s .horizon * n) e)

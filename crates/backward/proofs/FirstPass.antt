@@ -7,7 +7,7 @@ use mathlib.Core.List.{List}
 use mathlib.Core.Option.{Option, none, some}
 use lib.Dec.{T}
 use Rattle.process.specs.Recursion.{only, worth}
-use Rattle.model.specs.Counted.{Counted, M}
+use Rattle.model.specs.View.{View, M}
 use Rattle.model.specs.Plan.{queueAt}
 use Rattle.model.specs.Queue.{Queue, bearable}
 use Rattle.laws.proofs.Recursion as recursion
@@ -32,7 +32,7 @@ only-passed : (b : Bool) (r : Option ℕ) → T b → only b r ≡ r
 only-passed true r t = refl
 only-passed false r t = absurd t
 
-module _ (s : Counted) where
+module _ (s : View) where
   -- with no slot left a bearable queue has a value, 0
   pub value-last : (w : Queue) → T (bearable (M s) w) → valueWith s 0 w ≡ some 0
   unfolding valueWith
@@ -51,7 +51,7 @@ module _ (s : Counted) where
 
 -- what the first pass is given, and what it leaves
 
-module _ (width : Width) {counts : List ℕ} {s : Counted} {sizes : Sizes} {left : ℕ} {scale : Option ℕ}
+module _ (width : Width) {counts : List ℕ} {s : View} {sizes : Sizes} {left : ℕ} {scale : Option ℕ}
     (ready : Ready width counts s sizes left scale) {next : ℕ} {values : List ℕ} (row : ValueRow width s left next values) where
   abbrev is-accepted : Accepted (width .limit) s
   is-accepted = accepted s (ready .prepared .accepted)

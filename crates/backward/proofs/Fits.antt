@@ -5,15 +5,15 @@ use mathlib.Core.Path.{sym, ap, _∙_}
 use native.Mathlib.Nat.{mul-le-mul, mul-le-mul-right, mul-assoc, pow-suc, pow-le-pow-right, le-trans, le-refl}
 use native.Mathlib.Omega.{arith}
 use Rattle.process.proofs.Value.{UptoOr}
-use Rattle.model.specs.Counted.{Counted, energyAt, speedAt, G, W}
+use Rattle.model.specs.View.{View, energyAt, speedAt, G, W}
 use Rattle.model.specs.Queue.{Queue}
-use Rattle.model.proofs.Counted.{energy-of-upto, energy-of-place, on-sheet-at}
+use Rattle.model.proofs.View.{energy-of-upto, energy-of-place, on-sheet-at}
 use Rattle.laws.proofs.Recursion.{value-most}
 use Rattle.model.proofs.Refusal.{Accepted, G-covers, W-low, power-fits}
 use Rattle.ahead.proofs.AnyRow.{sums-upto}
 use Rattle.backward.specs.Passes.{valueWith, aheadTo, aheadOf}
 
-module _ (s : Counted) where
+module _ (s : View) where
   -- what k slots can cost at most, scaled
   abbrev pub most : ℕ → ℕ
   most k = k * G s * W s ^ k
@@ -29,7 +29,7 @@ module _ (s : Counted) where
   ahead-upto k v = sums-upto s (valueWith s k) (most k) (value-upto k) v (s .jobCount) (le-refl (s .jobCount))
 
 -- of a sheet that is accepted by any limit
-module _ (s : Counted) {limit : ℕ} (a : Accepted limit s) (k : ℕ) (h : k < s .horizon) where
+module _ (s : View) {limit : ℕ} (a : Accepted limit s) (k : ℕ) (h : k < s .horizon) where
   -- what k + 1 slots of the sheet can cost is within it
   most-fits : most s (suc k) ≤ limit
   most-fits = le-trans (mul-le-mul (mul-le-mul-right (G s) h) (pow-le-pow-right (W-low s (a .ranged)) h)) (a .fits)

@@ -9,11 +9,11 @@ use native.Mathlib.Omega.{arith}
 use lib.Dec.{leb}
 use Rattle.process.specs.Recursion.{plus, only, Choice, better, best, worth, priced}
 use Rattle.process.proofs.Equations.{best-none}
-use Rattle.model.specs.Counted.{Counted, speedAt, energyAt, weightAt, speedsOf, W, M}
+use Rattle.model.specs.View.{View, speedAt, energyAt, weightAt, speedsOf, W, M}
 use Rattle.model.specs.Plan.{processOf, queueAt}
 use Rattle.model.specs.Queue.{Queue, total, run}
 use Rattle.model.specs.Refusal.{N}
-use Rattle.model.proofs.Counted.{energy-of-place}
+use Rattle.model.proofs.View.{energy-of-place}
 use Rattle.model.proofs.Queues.{listed-bearable}
 use Rattle.laws.proofs.Recursion.{choice-all, best-speed, priced-speed}
 use Rattle.model.proofs.Refusal.{Accepted, accepted, fields-right, N-is}
@@ -36,7 +36,7 @@ use Rattle.backward.proofs.Fits.{most, ahead-upto, cost-fits}
 use Rattle.backward.proofs.FirstPass.{value-chosen, not-bearable-none}
 
 -- what a speed costs by the recursion, with k slots left after this one
-abbrev costOf : Counted → ℕ → Queue → ℕ → Option ℕ
+abbrev costOf : View → ℕ → Queue → ℕ → Option ℕ
 costOf s k w speed = priced (processOf s) (s .jobCount) (weightAt s) k (valueWith s k) w speed
 
 -- a sum is the same in the other order
@@ -44,7 +44,7 @@ plus-turned : (r : Option ℕ) (m n : ℕ) → plus r (some (m * n)) ≡ plus (s
 plus-turned none m n = refl
 plus-turned (some v) m n = let same : v + m * n ≡ n * m + v = omega arith in ap {B = Option ℕ} some same
 
-module _ (s : Counted) {limit : ℕ} (a : Accepted limit s) (k : ℕ) (w : Queue) where
+module _ (s : View) {limit : ℕ} (a : Accepted limit s) (k : ℕ) (w : Queue) where
   -- it is what it costs by what is ahead
   cost-is : (j : ℕ) → j < s .speedCount → costBy (aheadOf s k) (some (W s ^ suc k)) w (speedAt s j) (energyAt s j) ≡ costOf s k w (speedAt s j)
   unfolding costBy aheadTo sumTo
@@ -70,7 +70,7 @@ module _ (s : Counted) {limit : ℕ} (a : Accepted limit s) (k : ℕ) (w : Queue
 
 -- what the second pass is given, and what it leaves
 
-module _ (width : Width) {counts : List ℕ} {s : Counted} {sizes : Sizes} {left : ℕ} {scale : Option ℕ}
+module _ (width : Width) {counts : List ℕ} {s : View} {sizes : Sizes} {left : ℕ} {scale : Option ℕ}
     (ready : Ready width counts s sizes left scale) {ahead : List ℕ} (row : AheadRow width s left ahead) where
   abbrev is-accepted : Accepted (width .limit) s
   is-accepted = accepted s (ready .prepared .accepted)

@@ -8,7 +8,7 @@ ghost use mathlib.Core.Path.{_≡_};
 ghost use mathlib.Core.Option.{some};
 ghost use Prim.Native.Nat.{suc, _+_, _*_, _≤_, _<_};
 ghost use lib.ListN.{length};
-ghost use Rattle.model.specs.Counted.{counted};
+ghost use Rattle.model.specs.View.{viewOf};
 ghost use Rattle.model.specs.Plan.{valuePlaces, planNeeded};
 ghost use Rattle.buffers.specs.Fills.{Fills};
 ghost use Rattle.value.specs.Narrow.{width, valueOf};
@@ -66,10 +66,10 @@ fn fill_ahead(
     ahead: &mut [u64],
     lanes: &[u32],
 )
-    requires { ⌜ Ready width (now counts) (counted sheet) sizes (slot .left) (valueOf (slot .scale)) ×
-        ValueRow width (counted sheet) (slot .left) (slot .next) (now values) × (sizes .after * width .places ≤ length (now ahead)) ⌝ }
-    requires lanes { ⌜ EntryTable (sizes .largest) (sizes .bound) (counted sheet) (now lanes) ⌝ }
-    ensures { λ r. ⌜ Fills (width .places) (valueIn width) (λ i. aheadOf (counted sheet) (slot .left) (queueAfter (counted sheet) i))
+    requires { ⌜ Ready width (now counts) (viewOf sheet) sizes (slot .left) (valueOf (slot .scale)) ×
+        ValueRow width (viewOf sheet) (slot .left) (slot .next) (now values) × (sizes .after * width .places ≤ length (now ahead)) ⌝ }
+    requires lanes { ⌜ EntryTable (sizes .largest) (sizes .bound) (viewOf sheet) (now lanes) ⌝ }
+    ensures { λ r. ⌜ Fills (width .places) (valueIn width) (λ i. aheadOf (viewOf sheet) (slot .left) (queueAfter (viewOf sheet) i))
         0 (sizes .after) (now (ahead .entry)) (now (ahead .exit)) ⌝ }
 {
     ahead::fill(sheet, sizes, lanes, slot.next, values, ahead);
@@ -86,11 +86,11 @@ fn fill_row(
     plan: &mut [u8],
     lanes: &[u32],
 )
-    requires { ⌜ Ready width (now counts) (counted sheet) sizes (slot .left) (valueOf (slot .scale)) ×
-        AheadRow width (counted sheet) (slot .left) (now ahead) × ((slot .this + sizes .queues) * width .places ≤ length (now values)) ×
+    requires { ⌜ Ready width (now counts) (viewOf sheet) sizes (slot .left) (valueOf (slot .scale)) ×
+        AheadRow width (viewOf sheet) (slot .left) (now ahead) × ((slot .this + sizes .queues) * width .places ≤ length (now values)) ×
         (slot .row + sizes .queues ≤ length (now plan)) ⌝ }
-    requires lanes { ⌜ SpeedTable (sizes .largest) (sizes .bound) (counted sheet) (now lanes) ⌝ }
-    ensures { λ r. ⌜ Planned width (counted sheet) (slot .left) (slot .this) (slot .row)
+    requires lanes { ⌜ SpeedTable (sizes .largest) (sizes .bound) (viewOf sheet) (now lanes) ⌝ }
+    ensures { λ r. ⌜ Planned width (viewOf sheet) (slot .left) (slot .this) (slot .row)
         (now (values .entry)) (now (plan .entry)) (now (values .exit)) (now (plan .exit)) ⌝ }
 {
     choose::fill(
@@ -118,12 +118,12 @@ fn fill_slot(
     entry_lanes: &[u32],
     speed_lanes: &[u32],
 )
-    requires { ⌜ Ready width (now counts) (counted sheet) sizes (slot .left) (valueOf (slot .scale)) ×
-        ValueRow width (counted sheet) (slot .left) (slot .next) (now values) × (sizes .after * width .places ≤ length (now ahead)) ×
+    requires { ⌜ Ready width (now counts) (viewOf sheet) sizes (slot .left) (valueOf (slot .scale)) ×
+        ValueRow width (viewOf sheet) (slot .left) (slot .next) (now values) × (sizes .after * width .places ≤ length (now ahead)) ×
         ((slot .this + sizes .queues) * width .places ≤ length (now values)) × (slot .row + sizes .queues ≤ length (now plan)) ⌝ }
-    requires lanes { ⌜ EntryTable (sizes .largest) (sizes .bound) (counted sheet) (now «entry_lanes») ×
-        SpeedTable (sizes .largest) (sizes .bound) (counted sheet) (now «speed_lanes») ⌝ }
-    ensures { λ r. ⌜ Planned width (counted sheet) (slot .left) (slot .this) (slot .row)
+    requires lanes { ⌜ EntryTable (sizes .largest) (sizes .bound) (viewOf sheet) (now «entry_lanes») ×
+        SpeedTable (sizes .largest) (sizes .bound) (viewOf sheet) (now «speed_lanes») ⌝ }
+    ensures { λ r. ⌜ Planned width (viewOf sheet) (slot .left) (slot .this) (slot .row)
         (now (values .entry)) (now (plan .entry)) (now (values .exit)) (now (plan .exit)) ⌝ }
 {
     fill_ahead(counts, sheet, sizes, slot, values, ahead, entry_lanes);
@@ -141,12 +141,12 @@ fn fill_slots(
     entry_lanes: &[u32],
     speed_lanes: &[u32],
 )
-    requires { ⌜ Prepared width (now counts) (counted sheet) sizes × (planNeeded (counted sheet) ≤ length (now plan)) ×
-        (valuePlaces width (counted sheet) ≤ length (now values)) ×
-        PlannedFrom width (counted sheet) 0 (now values) (now plan) (now values) (now plan) ⌝ }
-    requires lanes { ⌜ EntryTable (sizes .largest) (sizes .bound) (counted sheet) (now «entry_lanes») ×
-        SpeedTable (sizes .largest) (sizes .bound) (counted sheet) (now «speed_lanes») ⌝ }
-    ensures { λ r. ⌜ PlannedFrom width (counted sheet) (sheet .horizon)
+    requires { ⌜ Prepared width (now counts) (viewOf sheet) sizes × (planNeeded (viewOf sheet) ≤ length (now plan)) ×
+        (valuePlaces width (viewOf sheet) ≤ length (now values)) ×
+        PlannedFrom width (viewOf sheet) 0 (now values) (now plan) (now values) (now plan) ⌝ }
+    requires lanes { ⌜ EntryTable (sizes .largest) (sizes .bound) (viewOf sheet) (now «entry_lanes») ×
+        SpeedTable (sizes .largest) (sizes .bound) (viewOf sheet) (now «speed_lanes») ⌝ }
+    ensures { λ r. ⌜ PlannedFrom width (viewOf sheet) (sheet .horizon)
         (now (values .entry)) (now (plan .entry)) (now (values .exit)) (now (plan .exit)) ⌝ }
 {
     let mut ahead = [0; 7084];
@@ -175,9 +175,9 @@ fn fill_slots(
 // The end row and every slot. The lanes have no slot in them, and are worked out once: two columns of 32 places and a line for each of at
 // most 969 blocks, two columns of 9 places and a line for each of at most 7,084.
 pub fn fill(counts: &[u32; 2352], sheet: Sheet, sizes: Sizes, values: &mut [u64], plan: &mut [u8])
-    requires { ⌜ Prepared width (now counts) (counted sheet) sizes × (planNeeded (counted sheet) ≤ length (now plan)) ×
-        (valuePlaces width (counted sheet) ≤ length (now values)) ⌝ }
-    ensures { λ r. ⌜ PlannedFrom width (counted sheet) (sheet .horizon)
+    requires { ⌜ Prepared width (now counts) (viewOf sheet) sizes × (planNeeded (viewOf sheet) ≤ length (now plan)) ×
+        (valuePlaces width (viewOf sheet) ≤ length (now values)) ⌝ }
+    ensures { λ r. ⌜ PlannedFrom width (viewOf sheet) (sheet .horizon)
         (now (values .entry)) (now (plan .entry)) (now (values .exit)) (now (plan .exit)) ⌝ }
 {
     let mut entry_lanes = [0; 33979];

@@ -3,13 +3,13 @@
 use Prim.Native.Nat.{ℕ, zero, suc}
 use mathlib.Core.Path.{_≡_}
 use mathlib.Core.List.{List}
-use Rattle.model.specs.Counted.{Counted, counted}
+use Rattle.model.specs.View.{View, viewOf}
 use Rattle.model.specs.Plan.{PlanAnswer, Leaves, Untouched}
 use Rattle.model.specs.Width.{narrow}
 use Rattle.model.specs.Reading.{read}
 
 -- by the reader's number
-abbrev pub LeavesRead : ℕ → Counted → (values₀ plan₀ values plan : List ℕ) → PlanAnswer → Type 0
+abbrev pub LeavesRead : ℕ → View → (values₀ plan₀ values plan : List ℕ) → PlanAnswer → Type 0
 LeavesRead zero s values₀ plan₀ values plan a = Leaves narrow s values₀ plan₀ values plan a
 LeavesRead (suc number) s values₀ plan₀ values plan a = Untouched (suc number) values₀ plan₀ values plan a
 
@@ -17,4 +17,4 @@ LeavesRead (suc number) s values₀ plan₀ values plan a = Untouched (suc numbe
 pub record IsPlanned (bytes values₀ plan₀ values plan : List ℕ) (number : ℕ) : Type 0 where
   pub answer : PlanAnswer
   pub number-is : number ≡ answer .number
-  pub leaves : LeavesRead (read bytes .number) (counted (read bytes .sheet)) values₀ plan₀ values plan answer
+  pub leaves : LeavesRead (read bytes .number) (viewOf (read bytes .sheet)) values₀ plan₀ values plan answer

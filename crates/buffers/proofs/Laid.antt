@@ -10,7 +10,7 @@ use native.Mathlib.Omega.{arith}
 use borrow.Author.Tests.{ltb-true, ltb-false}
 use lib.Dec.{ltb}
 use lib.ListN.{length, getD, take, drop, set, length-set, length-append, length-drop, List·getD-append}
-use lib.Seq.{ext-getD, getD-append-add, getD-drop, take-append-seam}
+use lib.Seq.{ext-getD, getD-append-add, getD-drop, length-take-le, take-all, take-append-seam, take-suc}
 use Rattle.model.specs.Bytes.{written, Wrote}
 use Rattle.model.specs.Tests.{inTurn}
 use Rattle.model.proofs.Tests.{turn-upto}
@@ -110,6 +110,24 @@ module _ (f : ℕ → List ℕ) (j : ℕ) {l : List ℕ} (here : f j ≡ l) {at 
   pub turn-laid : {after : List ℕ} {last : ℕ} → Laid next l between after last → Laid at (inTurn f (j + 1)) before after last
   unfolding inTurn
   turn-laid second = rw (add-one, here) (laid-then first second)
+
+-- what a loop over the bytes of a list knows at place j, once those before it are laid
+module _ (l : List ℕ) {j : ℕ} (inside : j < length l) {at next : ℕ} {before between : List ℕ}
+    (first : Laid at (take j l) before between next) (room : at + length l ≤ length before) where
+  -- its place is inside
+  pub front-inside : next < length between
+  front-inside =
+      let enough : at + length (take j l ++ getD l j 0 ∷ []) ≤ length before = rw (← (take-suc l j 0 inside), length-take-le) (omega arith) in
+      omega (arith, room-then (getD l j 0 ∷ []) first enough)
+
+  -- once it is stored, one byte more is laid
+  pub front-laid : Laid at (take (j + 1) l) before (set between next (getD l j 0)) (next + 1)
+  front-laid = rw (add-one j, take-suc l j 0 inside) (laid-then first (laid-one next (getD l j 0) between front-inside))
+
+-- at the end the list is laid
+pub front-whole : (l : List ℕ) {j at next : ℕ} {before after : List ℕ} → length l ≤ j → Laid at (take j l) before after next →
+    Laid at l before after next
+front-whole l {j = j} h laid = rw (take-all j l h) at laid
 
 -- how far a loop, or a row of calls, over n lists in turn has come: there is room for all, and the first j are laid
 pub record LaidTo (f : ℕ → List ℕ) (n at : ℕ) (before : List ℕ) (j : ℕ) (between : List ℕ) (next : ℕ) : Type 0 where

@@ -1,2 +1,20 @@
-// What filling a lent buffer leaves, and writing bytes into one, as definitions (specs/) and laws (proofs/), for every crate that does so. It
-// has no code.
+// What filling a lent buffer leaves, and laying bytes over it, as definitions (specs/) and laws (proofs/), for every crate that does so; and
+// the one function that lays bytes.
+ghost use Prim.Native.Nat.{_+_, _≤_};
+ghost use lib.ListN.{length};
+ghost use Rattle.buffers.specs.Laid.{Laid};
+
+// Lays bytes over a buffer, from a place on; answers the place that follows.
+pub fn lay(buffer: &mut [u8], at: usize, bytes: &[u8]) -> usize
+    requires { ⌜ at + length (now bytes) ≤ length (now buffer) ⌝ }
+    ensures { λ r. ⌜ Laid at (now (bytes .entry)) (now (buffer .entry)) (now (buffer .exit)) r ⌝ }
+{
+    let mut next = at;
+    let mut place = 0;
+    while place < bytes.len() {
+        buffer[next] = bytes[place];
+        next += 1;
+        place += 1;
+    }
+    next
+}

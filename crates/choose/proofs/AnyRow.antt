@@ -12,7 +12,7 @@ use lib.Dec.{T, leb}
 use lib.ListN.{length}
 use Rattle.process.specs.Recursion.{plus, times, only, worth}
 use Rattle.process.proofs.Value.{UptoOr, plus-upto}
-use Rattle.model.specs.Counted.{Counted, speedAt, energyAt}
+use Rattle.model.specs.View.{View, speedAt, energyAt}
 use Rattle.model.specs.Queue.{Queue, total, bearable, run}
 use Rattle.model.specs.Refusal.{fieldsRefusal}
 use Rattle.model.proofs.Queues.{bearable-at, listed-bearable}
@@ -49,7 +49,7 @@ cost-upto g most upto scale w speed energy =
     only-upto (leb (total w 1) speed) (plus (g (run w speed)) (times energy (some scale))) (most + energy * scale)
     (plus-upto (Unit {0}) (g (run w speed)) (some (energy * scale)) most (energy * scale) (upto (run w speed)) (le-refl (energy * scale)))
 
-module _ (width : Width) (s : Counted) {sizes : Sizes} (m : Measured sizes) (g : Queue → Option ℕ) {ahead : List ℕ}
+module _ (width : Width) (s : View) {sizes : Sizes} (m : Measured sizes) (g : Queue → Option ℕ) {ahead : List ℕ}
     (row : RowAfter width (sizes .largest) (sizes .bound) g 0 ahead) where
   listed : (n : ℕ) → n < sizes .queues →
       let w = queueWith (sizes .largest) (sizes .bound) n in

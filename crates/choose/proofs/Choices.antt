@@ -1,12 +1,12 @@
 -- Laws of the least over the speeds (specs/Choice.antt), one speed more at a time.
 use Prim.Native.Nat.{ℕ, zero, suc, _+_, _≤_, _<_}
 use mathlib.Core.Path.{_≡_, refl, sym, ap, _∙_, subst}
-use mathlib.Core.Bool.{Bool, true, false}
+use mathlib.Core.Bool.{Bool, true, false, cond}
 use mathlib.Core.Option.{Option, none, some}
 use native.Mathlib.Numerals.{add-one}
 use native.Mathlib.Omega.{arith}
 use lib.Dec.{T, ltb}
-use Rattle.process.specs.Recursion.{Choice, nothing, chosen, choose, cheaper, better}
+use Rattle.process.specs.Recursion.{Choice, nothing, chosen, cheaper, better}
 use Rattle.process.proofs.Equations.{cheaper-is}
 use Rattle.value.specs.Values.{lessThan}
 use Rattle.choose.specs.Choice.{leastTo, byteOf, IsChoice, IsBetter}
@@ -20,7 +20,7 @@ better-taken before r speed none e c i = absurd (subst T (sym e) tt)
 better-taken before r speed (some v) e nothing i = record { speed-is = refl; value-is = refl }
 better-taken before r speed (some v) e (chosen b u) i =
     let less : ltb v u ≡ true = ap (lessThan (some v)) (sym (i .value-is)) ∙ e in
-    subst (λ (x : Bool). IsChoice (choose x (chosen speed v) (chosen b u)) speed (some v)) (sym (cheaper-is v u ∙ less))
+    subst (λ (x : Bool). IsChoice (cond x (chosen speed v) (chosen b u)) speed (some v)) (sym (cheaper-is v u ∙ less))
     (record { speed-is = refl; value-is = refl })
 
 -- any other leaves the least as it is
@@ -30,7 +30,7 @@ better-left before r speed none e c i = i
 better-left before r speed (some v) e nothing i = absurd (subst T (ap (lessThan (some v)) (sym (i .value-is)) ∙ e) tt)
 better-left before r speed (some v) e (chosen b u) i =
     let less : ltb v u ≡ false = ap (lessThan (some v)) (sym (i .value-is)) ∙ e in
-    subst (λ (x : Bool). IsChoice (choose x (chosen speed v) (chosen b u)) before r) (sym (cheaper-is v u ∙ less)) i
+    subst (λ (x : Bool). IsChoice (cond x (chosen speed v) (chosen b u)) before r) (sym (cheaper-is v u ∙ less)) i
 
 -- several
 
@@ -84,7 +84,7 @@ module _ (speed : ℕ → ℕ) (cost : ℕ → Option ℕ) where
       go nothing (some v) h k = k
       go (chosen b u) (some v) h k = pick (cheaper v u)
         where
-          pick : (t : Bool) → byteOf (choose t (chosen (speed n) v) (chosen b u)) ≤ 255
+          pick : (t : Bool) → byteOf (cond t (chosen (speed n) v) (chosen b u)) ≤ 255
           pick true = k
           pick false = h
 

@@ -12,9 +12,9 @@ use native.Mathlib.Omega.{arith}
 use lib.Dec.{T}
 use lib.ListN.{length, getD, set}
 use Rattle.process.specs.Recursion.{plus, times}
-use Rattle.model.specs.Counted.{Counted, speedAt, energyAt}
+use Rattle.model.specs.View.{View, speedAt, energyAt}
 use Rattle.model.specs.Queue.{Queue, total, bearable, queueCount, numberOf, run}
-use Rattle.model.proofs.Counted.{later-faster}
+use Rattle.model.proofs.View.{later-faster}
 use Rattle.model.proofs.Queues.{bearable-at, bearable-upto, number-below, length-in, length-run}
 use Rattle.model.proofs.Refusal.{Ranged, ranged}
 use Rattle.model.proofs.Tests.{same-test, first-holds, first-upto, first-within}
@@ -37,7 +37,7 @@ use Rattle.choose.specs.Pass.{Given, Within, valueLeft, byteLeft, Left, 
 use Rattle.choose.proofs.Choices.{least-small}
 use Rattle.choose.proofs.Costs.{cost-none, cost-some}
 
-module _ {width : Width} {s : Counted} {sizes : Sizes} {scale : Option ℕ} {lanes ahead : List ℕ}
+module _ {width : Width} {s : View} {sizes : Sizes} {scale : Option ℕ} {lanes ahead : List ℕ}
     (given : Given width s sizes scale lanes ahead) where
   -- the sheet keeps its ranges
   pub in-range : Ranged s
@@ -199,7 +199,7 @@ module _ {width : Width} {s : Counted} {sizes : Sizes} {scale : Option ℕ} {lan
               )
 
 -- what is chosen in a queue, stored in both rows
-pub left-stored : (width : Width) (s : Counted) (sizes : Sizes) (scale : Option ℕ) (ahead : List ℕ) (this row : ℕ)
+pub left-stored : (width : Width) (s : View) (sizes : Sizes) (scale : Option ℕ) (ahead : List ℕ) (this row : ℕ)
     {n m speed : ℕ} {r : Option ℕ} {values values′ plan : List ℕ} → m ≡ n →
     IsChoice (leastIn width (sizes .largest) (sizes .bound) s ahead scale (queueWith (sizes .largest) (sizes .bound) n)) speed r →
     Fills (width .places) (valueIn width) (λ i. r) (this + m) 1 values values′ → row + m < length plan →
@@ -216,7 +216,7 @@ left-stored width s sizes scale ahead this row {n} {m} {speed} {values = values}
 
 -- a row that is filled block by block
 
-module _ (width : Width) (s : Counted) (sizes : Sizes) (scale : Option ℕ) (ahead : List ℕ) (this row : ℕ) where
+module _ (width : Width) (s : View) (sizes : Sizes) (scale : Option ℕ) (ahead : List ℕ) (this row : ℕ) where
   abbrev Done : (ℕ → Type 0) → (values₀ plan₀ values plan : List ℕ) → Type 0
   Done done values₀ plan₀ values plan = LeftWhere width s sizes scale ahead this row done values₀ plan₀ values plan
 

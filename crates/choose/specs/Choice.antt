@@ -6,7 +6,7 @@ use mathlib.Core.List.{List}
 use mathlib.Core.Option.{Option}
 use lib.Dec.{leb}
 use Rattle.process.specs.Recursion.{plus, times, only, Choice, nothing, chosen, better, worth}
-use Rattle.model.specs.Counted.{Counted, speedAt, energyAt}
+use Rattle.model.specs.View.{View, speedAt, energyAt}
 use Rattle.model.specs.Plan.{noSpeed}
 use Rattle.model.specs.Queue.{Queue, total, queueIn, run}
 use Rattle.model.specs.Width.{Width}
@@ -22,7 +22,7 @@ leastTo speed cost zero = nothing
 leastTo speed cost (suc j) = better (leastTo speed cost j) (speed j) (cost j)
 
 -- the least over the speeds of a sheet
-abbrev pub leastBy : (Queue → Option ℕ) → Counted → Option ℕ → Queue → Choice
+abbrev pub leastBy : (Queue → Option ℕ) → View → Option ℕ → Queue → Choice
 leastBy g s scale w = leastTo (speedAt s) (λ j. costBy g scale w (speedAt s j) (energyAt s j)) (s .speedCount)
 
 -- by the buffer `ahead`, of queues of D positions
@@ -32,11 +32,11 @@ abbrev pub aheadIn : Width → ℕ → ℕ → List ℕ → Queue → Option ℕ
 aheadIn width largest D ahead v = valueInRow width largest ahead 0 (queueIn (pred D) v)
 
 -- what the speed at place j of the sheet costs
-abbrev pub costAt : Width → ℕ → ℕ → Counted → List ℕ → Option ℕ → Queue → ℕ → Option ℕ
+abbrev pub costAt : Width → ℕ → ℕ → View → List ℕ → Option ℕ → Queue → ℕ → Option ℕ
 costAt width largest D s ahead scale w j = costBy (aheadIn width largest D ahead) scale w (speedAt s j) (energyAt s j)
 
 -- and the least
-abbrev pub leastIn : Width → ℕ → ℕ → Counted → List ℕ → Option ℕ → Queue → Choice
+abbrev pub leastIn : Width → ℕ → ℕ → View → List ℕ → Option ℕ → Queue → Choice
 leastIn width largest D s ahead scale w = leastBy (aheadIn width largest D ahead) s scale w
 
 -- a choice as the code keeps it: a speed, 255 where there is none, and a value

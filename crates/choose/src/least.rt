@@ -6,7 +6,7 @@ use sheets::Sizes;
 use value::Value;
 ghost use mathlib.Core.Path.{_≡_};
 ghost use Prim.Native.Nat.{_-_, _≤_, _<_};
-ghost use Rattle.model.specs.Counted.{counted};
+ghost use Rattle.model.specs.View.{viewOf};
 ghost use Rattle.queues.specs.Blocks.{queueWith, firstOf, numberIn};
 ghost use Rattle.value.specs.Narrow.{width, valueOf};
 ghost use Rattle.speed_lanes.specs.Lanes.{slowestIn};
@@ -54,10 +54,10 @@ fn cost(
     last: u32,
     place: usize,
 ) -> Value
-    requires { ⌜ Given width (counted sheet) sizes (valueOf scale) (now lanes) (now ahead) × Within sizes block last ×
-        (slowestIn (sizes .largest) (sizes .bound) (counted sheet) (firstOf (sizes .largest) (sizes .bound) block) ≤ place) ×
+    requires { ⌜ Given width (viewOf sheet) sizes (valueOf scale) (now lanes) (now ahead) × Within sizes block last ×
+        (slowestIn (sizes .largest) (sizes .bound) (viewOf sheet) (firstOf (sizes .largest) (sizes .bound) block) ≤ place) ×
         (place < sheet .«speed_count») ⌝ }
-    ensures { λ r. ⌜ valueOf r ≡ costAt width (sizes .largest) (sizes .bound) (counted sheet) (now (ahead .entry)) (valueOf scale)
+    ensures { λ r. ⌜ valueOf r ≡ costAt width (sizes .largest) (sizes .bound) (viewOf sheet) (now (ahead .entry)) (valueOf scale)
         (queueWith (sizes .largest) (sizes .bound) (numberIn (sizes .largest) (sizes .bound) block last)) place ⌝ }
 {
     let at = line_at(9, sheet.speed_count, block);
@@ -80,8 +80,8 @@ pub fn choose(
     block: usize,
     last: u32,
 ) -> Chosen
-    requires { ⌜ Given width (counted sheet) sizes (valueOf scale) (now lanes) (now ahead) × Within sizes block last ⌝ }
-    ensures { λ r. ⌜ IsChoice (leastIn width (sizes .largest) (sizes .bound) (counted sheet) (now (ahead .entry)) (valueOf scale)
+    requires { ⌜ Given width (viewOf sheet) sizes (valueOf scale) (now lanes) (now ahead) × Within sizes block last ⌝ }
+    ensures { λ r. ⌜ IsChoice (leastIn width (sizes .largest) (sizes .bound) (viewOf sheet) (now (ahead .entry)) (valueOf scale)
         (queueWith (sizes .largest) (sizes .bound) (numberIn (sizes .largest) (sizes .bound) block last))) (r .speed) (valueOf (r .value)) ⌝ }
 {
     let mut best = Chosen {

@@ -6,7 +6,7 @@ use sheets::Sizes;
 use value::Value;
 ghost use Prim.Native.Nat.{suc, _+_, _*_, _≤_, _<_};
 ghost use lib.ListN.{length};
-ghost use Rattle.model.specs.Counted.{counted};
+ghost use Rattle.model.specs.View.{viewOf};
 ghost use Rattle.queues.specs.Blocks.{InBlock, numberIn};
 ghost use Rattle.value.specs.Narrow.{width, valueOf};
 ghost use Rattle.choose.specs.Pass.{Given, Within, Left, LeftWhere, LeftAll};
@@ -25,9 +25,9 @@ fn fill_queue(
     values: &mut [u64],
     plan: &mut [u8],
 )
-    requires { ⌜ Given width (counted sheet) sizes (valueOf scale) (now lanes) (now ahead) × Within sizes block last ×
+    requires { ⌜ Given width (viewOf sheet) sizes (valueOf scale) (now lanes) (now ahead) × Within sizes block last ×
         ((this + sizes .queues) * width .places ≤ length (now values)) × (row + sizes .queues ≤ length (now plan)) ⌝ }
-    ensures { λ r. ⌜ Left width (counted sheet) sizes (valueOf scale) (now (ahead .entry)) this row
+    ensures { λ r. ⌜ Left width (viewOf sheet) sizes (valueOf scale) (now (ahead .entry)) this row
         (numberIn (sizes .largest) (sizes .bound) block last)
         (now (values .entry)) (now (plan .entry)) (now (values .exit)) (now (plan .exit)) ⌝ }
 {
@@ -51,9 +51,9 @@ fn fill_block(
     values: &mut [u64],
     plan: &mut [u8],
 )
-    requires { ⌜ Given width (counted sheet) sizes (valueOf scale) (now lanes) (now ahead) × (block < sizes .after) ×
+    requires { ⌜ Given width (viewOf sheet) sizes (valueOf scale) (now lanes) (now ahead) × (block < sizes .after) ×
         ((this + sizes .queues) * width .places ≤ length (now values)) × (row + sizes .queues ≤ length (now plan)) ⌝ }
-    ensures { λ r. ⌜ LeftWhere width (counted sheet) sizes (valueOf scale) (now (ahead .entry)) this row
+    ensures { λ r. ⌜ LeftWhere width (viewOf sheet) sizes (valueOf scale) (now (ahead .entry)) this row
         (InBlock (sizes .largest) (sizes .bound) block (suc (sizes .bound * sizes .largest)))
         (now (values .entry)) (now (plan .entry)) (now (values .exit)) (now (plan .exit)) ⌝ }
 {
@@ -89,9 +89,9 @@ pub fn fill(
     values: &mut [u64],
     plan: &mut [u8],
 )
-    requires { ⌜ Given width (counted sheet) sizes (valueOf scale) (now lanes) (now ahead) ×
+    requires { ⌜ Given width (viewOf sheet) sizes (valueOf scale) (now lanes) (now ahead) ×
         ((this + sizes .queues) * width .places ≤ length (now values)) × (row + sizes .queues ≤ length (now plan)) ⌝ }
-    ensures { λ r. ⌜ LeftAll width (counted sheet) sizes (valueOf scale) (now (ahead .entry)) this row
+    ensures { λ r. ⌜ LeftAll width (viewOf sheet) sizes (valueOf scale) (now (ahead .entry)) this row
         (now (values .entry)) (now (plan .entry)) (now (values .exit)) (now (plan .exit)) ⌝ }
 {
     let mut block = 0;

@@ -1,4 +1,4 @@
-// A number in decimal, how long it is, and a text: both are put at a place of a lent buffer.
+// A number in decimal: how long it is, and put at a place of a lent buffer.
 ghost use mathlib.Core.Path.{_≡_};
 ghost use Prim.Native.Nat.{_+_, _^_, _≤_, _<_};
 ghost use lib.ListN.{length};
@@ -43,19 +43,4 @@ pub fn put_decimal(buffer: &mut [u8], at: usize, x: u64) -> usize
     ensures { λ r. ⌜ Laid at (decimal x) (now (buffer .entry)) (now (buffer .exit)) r ⌝ }
 {
     put_in(20, buffer, at, x)
-}
-
-// Puts a text.
-pub fn put_text(buffer: &mut [u8], at: usize, text: &[u8]) -> usize
-    requires { ⌜ at + length (now text) ≤ length (now buffer) ⌝ }
-    ensures { λ r. ⌜ Laid at (now (text .entry)) (now (buffer .entry)) (now (buffer .exit)) r ⌝ }
-{
-    let mut next = at;
-    let mut place = 0;
-    while place < text.len() {
-        buffer[next] = text[place];
-        next += 1;
-        place += 1;
-    }
-    next
 }

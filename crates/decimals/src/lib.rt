@@ -1,8 +1,7 @@
-// A number in decimal and a text, put at a place of lent bytes (decimal), and the line that is written for a refusal (refusal).
+// A number in decimal, put at a place of lent bytes (decimal), and the line that is written for a refusal (refusal).
 mod decimal;
 mod refusal;
 
 pub use decimal::decimal_length;
 pub use decimal::put_decimal;
-pub use decimal::put_text;
 pub use refusal::put_refused;

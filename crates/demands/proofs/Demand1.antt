@@ -14,7 +14,7 @@ use lib.Dec.{leb, ltb}
 use lib.ListN.{length}
 use Rattle.process.proofs.Definite.{value-unique}
 use Rattle.model.specs.Bytes.{sheetBytes, writeLines, writeRefusal, write}
-use Rattle.model.specs.Counted.{Counted, counted, inMemory, weightAt, zeroSheet, M}
+use Rattle.model.specs.View.{View, viewOf, inMemory, weightAt, zeroSheet, M}
 use Rattle.model.specs.Listing.{listing, listLines, listRefusal, list}
 use Rattle.model.specs.Plan.{processOf, planLines, planRefusal, number12, Filled, LeavesBy, rowLines, rowRefusal}
 use Rattle.model.specs.Plan as model-plan
@@ -69,23 +69,23 @@ module _ {bytes : List ℕ} {a : ReadSheet} (call : Reads bytes a) where
 
 -- write: "Planner, writer and row: 4 to 10, 11"
 module _ {sheet : Sheet} {before after : List ℕ} {a : Written} (call : Writes sheet before a after) where
-  pub write-answers : Answers (a .number) (writeLines (counted sheet) (length before)) (4 ∷ 5 ∷ 6 ∷ 7 ∷ 8 ∷ 9 ∷ 10 ∷ 11 ∷ [])
+  pub write-answers : Answers (a .number) (writeLines (viewOf sheet) (length before)) (4 ∷ 5 ∷ 6 ∷ 7 ∷ 8 ∷ 9 ∷ 10 ∷ 11 ∷ [])
   unfolding writeLines
   write-answers =
-      let s = counted sheet in
+      let s = viewOf sheet in
       answers _ _ (writeLines s (length before)) (each-of-sheet _ s _ _ _, _) (write-is call .number-is ∙ write-number s before)
 
   -- "A refused write .. touches no lent place and reports zero for length"
   pub write-refused : (a .number ≡ 0 → ⊥) → (a .length ≡ 0) × (after ≡ before)
   unfolding write
   write-refused refused =
-      let s = counted sheet in
+      let s = viewOf sheet in
       wrote-refused (writeRefusal s (length before)) (sheetBytes s) before (write-is call) refused
 
 -- plan: "Planner, writer and row: 4 to 10, 11", and "12: planned, but the empty queue at slot 0 has none"
 module _ {sheet : Sheet} {values₀ plan₀ values bytes : List ℕ} {a : PlanAnswer} (call : Plans sheet values₀ plan₀ a values bytes) where
-  abbrev s : Counted
-  s = counted sheet
+  abbrev s : View
+  s = viewOf sheet
 
   -- there is one such value
   one-value : (q r : Option ℕ) → IsValueOfEmpty s q → IsValueOfEmpty s r → q ≡ r
@@ -136,13 +136,13 @@ module _ {sheet : Sheet} {values₀ plan₀ values bytes : List ℕ} {a : PlanAn
 
 -- the part is empty exactly when a line fails or the slot is not one of the sheet's
 pub row-empty : {sheet : Sheet} {bytes part : List ℕ} {slot : ℕ} → Rows sheet bytes slot part →
-    (part ≡ []) ↔ (((n : ℕ) × FailsFirst (rowLines (counted sheet) (length bytes)) n) ⊎ (sheet .horizon ≤ slot))
+    (part ≡ []) ↔ (((n : ℕ) × FailsFirst (rowLines (viewOf sheet) (length bytes)) n) ⊎ (sheet .horizon ≤ slot))
 unfolding rowLines
 row-empty {sheet = sheet} {bytes = bytes} {part = part} {slot = slot} call =
     (there (rowRefusal s (length bytes)) refl (ltb slot (sheet .horizon)) refl, ⊎-elim refused past)
   where
-    s : Counted
-    s = counted sheet
+    s : View
+    s = viewOf sheet
 
     tells : Tells (rowRefusal s (length bytes)) (rowLines s (length bytes))
     tells = answers (4 ∷ 5 ∷ 6 ∷ 7 ∷ 8 ∷ 9 ∷ 10 ∷ 11 ∷ []) _ (rowLines s (length bytes)) (each-of-sheet _ s _ _ _, _) refl .tells
@@ -162,10 +162,10 @@ row-empty {sheet = sheet} {bytes = bytes} {part = part} {slot = slot} call =
 
 -- list: 4 to 10, then 11 for a plan or a buffer that is too short
 module _ {sheet : Sheet} {least : ℕ} {bytes before after : List ℕ} {a : Listed} (call : Lists sheet least bytes before a after) where
-  pub list-answers : Answers (a .number) (listLines (counted sheet) least bytes (length before)) (4 ∷ 5 ∷ 6 ∷ 7 ∷ 8 ∷ 9 ∷ 10 ∷ 11 ∷ [])
+  pub list-answers : Answers (a .number) (listLines (viewOf sheet) least bytes (length before)) (4 ∷ 5 ∷ 6 ∷ 7 ∷ 8 ∷ 9 ∷ 10 ∷ 11 ∷ [])
   unfolding listLines
   list-answers =
-      let s = counted sheet in
+      let s = viewOf sheet in
       answers _ _ (listLines s least bytes (length before)) (each-of-sheet _ s _ _ _, _)
       (list-is call .number-is ∙ list-number s least bytes before)
 
@@ -173,29 +173,29 @@ module _ {sheet : Sheet} {least : ℕ} {bytes before after : List ℕ} {a : List
   pub list-refused : (a .number ≡ 0 → ⊥) → (a .length ≡ 0) × (after ≡ before)
   unfolding list
   list-refused refused =
-      let s = counted sheet in
+      let s = viewOf sheet in
       wrote-refused (listRefusal s least bytes (length before)) (listing s least bytes) before (list-is call) refused
 
 -- start: "Start: 4 to 10, 13"
 module _ {state : State} {sheet : Sheet} {a : Stepped} (call : Starts state sheet a) where
-  pub start-answers : Answers (a .number) (startLines (counted sheet) (stateOf state)) (4 ∷ 5 ∷ 6 ∷ 7 ∷ 8 ∷ 9 ∷ 10 ∷ 13 ∷ [])
+  pub start-answers : Answers (a .number) (startLines (viewOf sheet) (stateOf state)) (4 ∷ 5 ∷ 6 ∷ 7 ∷ 8 ∷ 9 ∷ 10 ∷ 13 ∷ [])
   unfolding startLines
   start-answers =
-      let s = counted sheet in
+      let s = viewOf sheet in
       answers _ _ (startLines s (stateOf state)) (each-of-sheet _ s _ _ _, _) (start-is call .number-is ∙ start-number s (stateOf state) .0)
 
   -- "A refused start gives an all-zero state"
   pub start-refused : (a .number ≡ 0 → ⊥) → stateOf (a .state) ≡ zeroState
   start-refused refused =
       let promised = start-is call in
-      promised .state-is ∙ start-number (counted sheet) (stateOf state) .1 (λ e. refused (promised .number-is ∙ e))
+      promised .state-is ∙ start-number (viewOf sheet) (stateOf state) .1 (λ e. refused (promised .number-is ∙ e))
 
 -- speed: "Speed: 4 to 10, 11, 13, 14, 16"
 module _ {state : State} {sheet : Sheet} {bytes : List ℕ} {a : Told} (call : Speeds state sheet bytes a) where
-  pub speed-answers : Answers (a .number) (speedLines (counted sheet) bytes (stateOf state)) (4 ∷ 5 ∷ 6 ∷ 7 ∷ 8 ∷ 9 ∷ 10 ∷ 11 ∷ 13 ∷ 14 ∷ 16 ∷ [])
+  pub speed-answers : Answers (a .number) (speedLines (viewOf sheet) bytes (stateOf state)) (4 ∷ 5 ∷ 6 ∷ 7 ∷ 8 ∷ 9 ∷ 10 ∷ 11 ∷ 13 ∷ 14 ∷ 16 ∷ [])
   unfolding speedLines rowLines
   speed-answers =
-      let s = counted sheet in
+      let s = viewOf sheet in
       answers _ _ (speedLines s bytes (stateOf state)) ((each-of-sheet _ s _ _ _, _), _)
       (speed-is call .number-is ∙ speed-number s bytes (stateOf state) .0)
 
@@ -203,16 +203,16 @@ module _ {state : State} {sheet : Sheet} {bytes : List ℕ} {a : Told} (call : S
   pub speed-refused : (a .number ≡ 0 → ⊥) → a .speed ≡ 0
   speed-refused refused =
       let promised = speed-is call in
-      promised .speed-is ∙ speed-number (counted sheet) bytes (stateOf state) .1 (λ e. refused (promised .number-is ∙ e))
+      promised .speed-is ∙ speed-number (viewOf sheet) bytes (stateOf state) .1 (λ e. refused (promised .number-is ∙ e))
 
 -- advance: "the same, then 15, 17, 18"
 module _ {state : State} {sheet : Sheet} {bytes : List ℕ} {size deadline : ℕ} {a : Stepped}
     (call : Advances state sheet bytes size deadline a) where
-  pub advance-answers : Answers (a .number) (advanceLines (counted sheet) bytes (stateOf state) size deadline)
+  pub advance-answers : Answers (a .number) (advanceLines (viewOf sheet) bytes (stateOf state) size deadline)
       (4 ∷ 5 ∷ 6 ∷ 7 ∷ 8 ∷ 9 ∷ 10 ∷ 11 ∷ 13 ∷ 14 ∷ 16 ∷ 15 ∷ 17 ∷ 18 ∷ [])
   unfolding advanceLines speedLines rowLines
   advance-answers =
-      let s = counted sheet in
+      let s = viewOf sheet in
       answers _ _ (advanceLines s bytes (stateOf state) size deadline) (((each-of-sheet _ s _ _ _, _), _), _)
       (advance-is call .number-is ∙ advance-number s bytes (stateOf state) size deadline .0)
 
@@ -220,13 +220,13 @@ module _ {state : State} {sheet : Sheet} {bytes : List ℕ} {size deadline : ℕ
   pub advance-refused : (a .number ≡ 0 → ⊥) → stateOf (a .state) ≡ stateOf state
   advance-refused refused =
       let promised = advance-is call in
-      promised .state-is ∙ advance-number (counted sheet) bytes (stateOf state) size deadline .1 (λ e. refused (promised .number-is ∙ e))
+      promised .state-is ∙ advance-number (viewOf sheet) bytes (stateOf state) size deadline .1 (λ e. refused (promised .number-is ∙ e))
 
   -- 18 is never answered: 13 bounds the state's energy
   pub advance-never-18 : a .number ≡ 18 → ⊥
   unfolding advanceLines speedLines rowLines
   advance-never-18 e =
-      let s = counted sheet in
+      let s = viewOf sheet in
       let x = stateOf state in
       let byte = planByte s bytes x in
       let next = moved s x byte size deadline in

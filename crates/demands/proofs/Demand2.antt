@@ -12,7 +12,7 @@ use lib.Dec.{T}
 use lib.ListN.{length}
 use Rattle.process.specs.Ways.{Way, Good}
 use Rattle.process.proofs.Definite.{value-unique}
-use Rattle.model.specs.Counted.{Counted, counted, weightAt, M}
+use Rattle.model.specs.View.{View, viewOf, weightAt, M}
 use Rattle.model.specs.Plan.{processOf, IsValueAt, IsPlanByte, IsPlanByteAt, queueAt, byteOfQueue, valuePlaces, planNeeded, planRefusal, FromEmpty, Filled, LeavesBy, placeOfQueue}
 use Rattle.model.specs.Plan as model-plan
 use Rattle.model.specs.Queue.{Queue, bearable, numberOf}
@@ -28,84 +28,84 @@ use Rattle.demands.proofs.Determined.{plan-is}
 -- when a plan is not refused
 
 -- where the sheet is accepted and both tables have room
-pub planned-by-room : (s : Counted) (values plan : ℕ) → sheetRefusal valueLimit s ≡ 0 → valuePlaces narrow s ≤ values → planNeeded s ≤ plan →
+pub planned-by-room : (s : View) (values plan : ℕ) → sheetRefusal valueLimit s ≡ 0 → valuePlaces narrow s ≤ values → planNeeded s ≤ plan →
     planRefusal narrow s values plan ≡ 0
 planned-by-room s values plan e h k = sym (plan-fits s narrow values plan e h k)
 
 module _ {sheet : Sheet} {values₀ plan₀ values bytes : List ℕ} {a : PlanAnswer} (call : Plans sheet values₀ plan₀ a values bytes) where
   -- where no refused plan could have answered this, the plan was not refused
   not-refused : (absurdity : (number : ℕ) → answered a ≡ record { number = suc number; queues = 0; least = 0 } → ⊥) →
-      planRefusal narrow (counted sheet) (length values₀) (length plan₀) ≡ 0
-  not-refused absurdity = go (planRefusal narrow (counted sheet) (length values₀) (length plan₀)) (plan-is call)
+      planRefusal narrow (viewOf sheet) (length values₀) (length plan₀) ≡ 0
+  not-refused absurdity = go (planRefusal narrow (viewOf sheet) (length values₀) (length plan₀)) (plan-is call)
     where
-      go : (number : ℕ) → LeavesBy number narrow (counted sheet) values₀ plan₀ values bytes (answered a) → number ≡ 0
+      go : (number : ℕ) → LeavesBy number narrow (viewOf sheet) values₀ plan₀ values bytes (answered a) → number ≡ 0
       go zero leaves = refl
       go (suc number) leaves = absurd (absurdity number (leaves .answer))
 
   -- where the answer's number is 0
-  pub planned-by-number : a .number ≡ 0 → planRefusal narrow (counted sheet) (length values₀) (length plan₀) ≡ 0
+  pub planned-by-number : a .number ≡ 0 → planRefusal narrow (viewOf sheet) (length values₀) (length plan₀) ≡ 0
   planned-by-number e = not-refused (λ number r. omega (arith, ap (λ (x : model-plan.PlanAnswer). x .number) r))
 
   -- where it reports its queues, with 0 and with 12 alike
-  pub planned-by-queues : 0 < a .queues → planRefusal narrow (counted sheet) (length values₀) (length plan₀) ≡ 0
+  pub planned-by-queues : 0 < a .queues → planRefusal narrow (viewOf sheet) (length values₀) (length plan₀) ≡ 0
   planned-by-queues h =
       not-refused (λ number r. not-suc-le-zero (subst (λ (n : ℕ). 0 < n) (ap (λ (x : model-plan.PlanAnswer). x .queues) r) h))
 
   -- a plan that is not refused fills the lent memory
-  pub planned-filled : planRefusal narrow (counted sheet) (length values₀) (length plan₀) ≡ 0 →
-      Filled narrow (counted sheet) values₀ plan₀ values bytes (answered a)
-  planned-filled e = subst (λ (number : ℕ). LeavesBy number narrow (counted sheet) values₀ plan₀ values bytes (answered a)) e (plan-is call)
+  pub planned-filled : planRefusal narrow (viewOf sheet) (length values₀) (length plan₀) ≡ 0 →
+      Filled narrow (viewOf sheet) values₀ plan₀ values bytes (answered a)
+  planned-filled e = subst (λ (number : ℕ). LeavesBy number narrow (viewOf sheet) values₀ plan₀ values bytes (answered a)) e (plan-is call)
 
   -- and answers N, 12 exactly where the empty queue has none at slot 0, and its least energy there
-  pub answer-right : planRefusal narrow (counted sheet) (length values₀) (length plan₀) ≡ 0 →
-      (a .queues ≡ N (counted sheet)) × FromEmpty (counted sheet) (answered a)
+  pub answer-right : planRefusal narrow (viewOf sheet) (length values₀) (length plan₀) ≡ 0 →
+      (a .queues ≡ N (viewOf sheet)) × FromEmpty (viewOf sheet) (answered a)
   answer-right e = (planned-filled e .queues, planned-filled e .empty)
 
 -- a plan that is not refused, at a bearable queue
 
 module _ {sheet : Sheet} {values₀ plan₀ values bytes : List ℕ} {a : PlanAnswer} (call : Plans sheet values₀ plan₀ a values bytes)
-    (planned : planRefusal narrow (counted sheet) (length values₀) (length plan₀) ≡ 0) (w : Queue)
-    (is-bearable : T (bearable (M (counted sheet)) w)) (positions : length w ≡ counted sheet .bound) where
+    (planned : planRefusal narrow (viewOf sheet) (length values₀) (length plan₀) ≡ 0) (w : Queue)
+    (is-bearable : T (bearable (M (viewOf sheet)) w)) (positions : length w ≡ viewOf sheet .bound) where
   -- its number is below N
-  below : numberOf (M (counted sheet)) w < N (counted sheet)
+  below : numberOf (M (viewOf sheet)) w < N (viewOf sheet)
   unfolding N
-  below = number-below (M (counted sheet)) w positions is-bearable
+  below = number-below (M (viewOf sheet)) w positions is-bearable
 
   -- and this queue is the one of that number
-  here : queueAt (counted sheet) (numberOf (M (counted sheet)) w) ≡ w
-  here = number-place (M (counted sheet)) w positions is-bearable
+  here : queueAt (viewOf sheet) (numberOf (M (viewOf sheet)) w) ≡ w
+  here = number-place (M (viewOf sheet)) w positions is-bearable
 
   -- where it has a value, that of the slot and this queue
   there : (t : ℕ) → t ≤ sheet .horizon →
-      IsValueAt (counted sheet) t w (planned-filled call planned .r t (numberOf (M (counted sheet)) w))
+      IsValueAt (viewOf sheet) t w (planned-filled call planned .r t (numberOf (M (viewOf sheet)) w))
   there t h =
-      let i = numberOf (M (counted sheet)) w in
+      let i = numberOf (M (viewOf sheet)) w in
       let f = planned-filled call planned in
-      subst (λ (q : Queue). IsValueAt (counted sheet) t q (f .r t i)) here (f .are-values t i h below)
+      subst (λ (q : Queue). IsValueAt (viewOf sheet) t q (f .r t i)) here (f .are-values t i h below)
 
   -- the value's place says the least scaled energy over all good ways from this slot and queue, or none
-  pub value-right : (t : ℕ) → t ≤ sheet .horizon → IsValueAt (counted sheet) t w (valueIn narrow values (placeOfQueue (counted sheet) t w))
+  pub value-right : (t : ℕ) → t ≤ sheet .horizon → IsValueAt (viewOf sheet) t w (valueIn narrow values (placeOfQueue (viewOf sheet) t w))
   value-right t h =
       let f = planned-filled call planned in
-      subst (IsValueAt (counted sheet) t w) (sym (f .in-values .each t (numberOf (M (counted sheet)) w) h below)) (there t h)
+      subst (IsValueAt (viewOf sheet) t w) (sym (f .in-values .each t (numberOf (M (viewOf sheet)) w) h below)) (there t h)
 
   -- the plan byte is the slowest speed that begins a least way, or 255 where there is none
-  pub byte-right : (t : ℕ) → t < sheet .horizon → IsPlanByteAt (counted sheet) t w (byteOfQueue (counted sheet) bytes t w)
+  pub byte-right : (t : ℕ) → t < sheet .horizon → IsPlanByteAt (viewOf sheet) t w (byteOfQueue (viewOf sheet) bytes t w)
   byte-right t h =
-      let i = numberOf (M (counted sheet)) w in
+      let i = numberOf (M (viewOf sheet)) w in
       let f = planned-filled call planned in (
         f .r t i,
         there t (le-of-lt h),
-        subst (λ (q : Queue). IsPlanByte (counted sheet) t q (f .r t i) (byteOfQueue (counted sheet) bytes t w)) here
+        subst (λ (q : Queue). IsPlanByte (viewOf sheet) t q (f .r t i) (byteOfQueue (viewOf sheet) bytes t w)) here
             (f .in-plan .bytes t i h below),
       )
 
   -- "none" stands exactly where no way is good
   pub none-right : (t : ℕ) → t ≤ sheet .horizon →
-      (valueIn narrow values (placeOfQueue (counted sheet) t w) ≡ none) ↔
-      ((σ : Way) → Good (processOf (counted sheet)) (counted sheet .jobCount) (sheet .horizon - t) w σ → ⊥)
+      (valueIn narrow values (placeOfQueue (viewOf sheet) t w) ≡ none) ↔
+      ((σ : Way) → Good (processOf (viewOf sheet)) (viewOf sheet .jobCount) (sheet .horizon - t) w σ → ⊥)
   none-right t h = (
-    λ e. subst (IsValueAt (counted sheet) t w) e (value-right t h),
-    λ none-good. value-unique (processOf (counted sheet)) (counted sheet .jobCount) (weightAt (counted sheet)) (sheet .horizon - t) w
-        (valueIn narrow values (placeOfQueue (counted sheet) t w)) none (value-right t h) none-good,
+    λ e. subst (IsValueAt (viewOf sheet) t w) e (value-right t h),
+    λ none-good. value-unique (processOf (viewOf sheet)) (viewOf sheet .jobCount) (weightAt (viewOf sheet)) (sheet .horizon - t) w
+        (valueIn narrow values (placeOfQueue (viewOf sheet) t w)) none (value-right t h) none-good,
   )

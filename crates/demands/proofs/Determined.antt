@@ -5,7 +5,7 @@ use mathlib.Core.Path.{_≡_, sym, ap, subst, _∙_}
 use mathlib.Core.List.{List}
 use denote.Ref.{now}
 use Rattle.model.specs.Bytes.{write}
-use Rattle.model.specs.Counted.{Counted, counted}
+use Rattle.model.specs.View.{View, viewOf}
 use Rattle.model.specs.declared.Sheet.{Sheet}
 use Rattle.reader.specs.Calls.{IsRead}
 use Rattle.writer.specs.Calls.{IsWritten}
@@ -50,9 +50,9 @@ read-determined {a = a} {b = b} first second =
 
 -- what a write promises of this sheet and this buffer
 pub write-is : {sheet : Sheet} {before after : List ℕ} {answer : Written} → Writes sheet before answer after →
-    IsWritten (counted sheet) before (answer .number) (answer .length) after
+    IsWritten (viewOf sheet) before (answer .number) (answer .length) after
 write-is {sheet = sheet} {before = before} {answer = answer} call =
-    let promised : Sheet → List ℕ → List ℕ → Type 0 = λ s b a. IsWritten (counted s) b (answer .number) (answer .length) a in
+    let promised : Sheet → List ℕ → List ℕ → Type 0 = λ s b a. IsWritten (viewOf s) b (answer .number) (answer .length) a in
     let left = now (call .at-exit .1 .0) in
     let of-sheet = subst (λ (s : Sheet). promised s (now (call .lent .1 .0)) left) (call .sheet-written) (call .contract) in
     let of-buffer = subst (λ (l : List ℕ). promised sheet l left) (call .before-is) of-sheet in
@@ -65,24 +65,24 @@ same-written a b e d =
     ap (λ (n : ℕ). given n (a .length)) e ∙ ap (given (b .number)) d
 
 -- sheets with equal views, written into equal buffers: equal answers and equal buffers. Of one sheet: the contract determines both
-pub write-determined : {s t : Sheet} {before after after′ : List ℕ} {a b : Written} → counted s ≡ counted t →
+pub write-determined : {s t : Sheet} {before after after′ : List ℕ} {a b : Written} → viewOf s ≡ viewOf t →
     Writes s before a after → Writes t before b after′ → (a ≡ b) × (after ≡ after′)
 write-determined {before = before} {a = a} {b = b} view first second =
     let one = write-is first in
     let two = write-is second in (
-      same-written a b (one .number-is ∙ ap (λ (s : Counted). write s before .number) view ∙ sym (two .number-is))
-          (one .written-is ∙ ap (λ (s : Counted). write s before .written) view ∙ sym (two .written-is)),
-      one .buffer-is ∙ ap (λ (s : Counted). write s before .buffer) view ∙ sym (two .buffer-is),
+      same-written a b (one .number-is ∙ ap (λ (s : View). write s before .number) view ∙ sym (two .number-is))
+          (one .written-is ∙ ap (λ (s : View). write s before .written) view ∙ sym (two .written-is)),
+      one .buffer-is ∙ ap (λ (s : View). write s before .buffer) view ∙ sym (two .buffer-is),
     )
 
 -- plan
 
 -- what a plan promises of this sheet and this lent memory
 pub plan-is : {sheet : Sheet} {values₀ plan₀ values bytes : List ℕ} {answer : PlanAnswer} → Plans sheet values₀ plan₀ answer values bytes →
-    IsPlan (counted sheet) values₀ plan₀ values bytes (answer .number) (answer .queues) (answer .least)
+    IsPlan (viewOf sheet) values₀ plan₀ values bytes (answer .number) (answer .queues) (answer .least)
 plan-is {sheet = sheet} {values₀ = values₀} {plan₀ = plan₀} {values = values} {answer = answer} call =
     let promised : Sheet → List ℕ → List ℕ → List ℕ → List ℕ → Type 0 =
-    λ s v p w q. IsPlan (counted s) v p w q (answer .number) (answer .queues) (answer .least) in
+    λ s v p w q. IsPlan (viewOf s) v p w q (answer .number) (answer .queues) (answer .least) in
     let plan-lent = now (call .lent .1 .1 .0) in
     let values-left = now (call .at-exit .1 .0) in
     let plan-left = now (call .at-exit .1 .1 .0) in
@@ -94,11 +94,11 @@ plan-is {sheet = sheet} {values₀ = values₀} {plan₀ = plan₀} {values = va
 
 -- sheets with equal views, planned in equal lent memory: equal values, equal plans, equal answers. Of one sheet: the contract determines
 -- every place and the answer
-pub plan-determined : {s t : Sheet} {values₀ plan₀ values bytes values′ bytes′ : List ℕ} {a b : PlanAnswer} → counted s ≡ counted t →
+pub plan-determined : {s t : Sheet} {values₀ plan₀ values bytes values′ bytes′ : List ℕ} {a b : PlanAnswer} → viewOf s ≡ viewOf t →
     Plans s values₀ plan₀ a values bytes → Plans t values₀ plan₀ b values′ bytes′ → (values ≡ values′) × (bytes ≡ bytes′) × (a ≡ b)
 plan-determined {t = t} {values₀ = values₀} {plan₀ = plan₀} {values = values} {bytes = bytes} {values′ = values′} {bytes′ = bytes′} {a = a} {b = b} view first second =
-    let one = subst (λ (s : Counted). Leaves narrow s values₀ plan₀ values bytes (answered a)) view (plan-is first) in
-    let same = leaves-unique narrow (counted t) values₀ plan₀ values bytes values′ bytes′ (answered a) (answered b) (narrow-telling values values′) one
+    let one = subst (λ (s : View). Leaves narrow s values₀ plan₀ values bytes (answered a)) view (plan-is first) in
+    let same = leaves-unique narrow (viewOf t) values₀ plan₀ values bytes values′ bytes′ (answered a) (answered b) (narrow-telling values values′) one
     (plan-is second) in
     let back : model-plan.PlanAnswer → PlanAnswer = λ x. record { number = x .number; queues = x .queues; least = x .least } in
     (same .0, same .1, ap back (same .2))
@@ -106,9 +106,9 @@ plan-determined {t = t} {values₀ = values₀} {plan₀ = plan₀} {values = va
 -- row
 
 -- what a row promises of this sheet, this plan and this slot
-pub row-is : {sheet : Sheet} {bytes part : List ℕ} {slot : ℕ} → Rows sheet bytes slot part → IsRow (counted sheet) bytes slot part
+pub row-is : {sheet : Sheet} {bytes part : List ℕ} {slot : ℕ} → Rows sheet bytes slot part → IsRow (viewOf sheet) bytes slot part
 row-is {sheet = sheet} {bytes = bytes} {slot = slot} call =
-    let promised : Sheet → List ℕ → ℕ → List ℕ → Type 0 = λ s l t p. IsRow (counted s) l t p in
+    let promised : Sheet → List ℕ → ℕ → List ℕ → Type 0 = λ s l t p. IsRow (viewOf s) l t p in
     let slot-asked = call .lent .1 .1 .0 in
     let of-sheet = subst (λ (s : Sheet). promised s (now (call .lent .1 .0)) slot-asked (now (call .answer))) (call .sheet-asked) (call .contract) in
     let of-plan = subst (λ (l : List ℕ). promised sheet l slot-asked (now (call .answer))) (call .plan-lent) of-sheet in
@@ -116,18 +116,18 @@ row-is {sheet = sheet} {bytes = bytes} {slot = slot} call =
     subst (λ (p : List ℕ). promised sheet bytes slot p) (call .answer-is) of-slot
 
 -- sheets with equal views, the same plan and the same slot: the same part
-pub row-determined : {s t : Sheet} {bytes part part′ : List ℕ} {slot : ℕ} → counted s ≡ counted t →
+pub row-determined : {s t : Sheet} {bytes part part′ : List ℕ} {slot : ℕ} → viewOf s ≡ viewOf t →
     Rows s bytes slot part → Rows t bytes slot part′ → part ≡ part′
 row-determined {bytes = bytes} {slot = slot} view first second =
-    row-is first ∙ ap (λ (s : Counted). row s bytes slot) view ∙ sym (row-is second)
+    row-is first ∙ ap (λ (s : View). row s bytes slot) view ∙ sym (row-is second)
 
 -- list
 
 -- what a listing promises of this sheet, this least energy, this plan and this buffer
 pub list-is : {sheet : Sheet} {least : ℕ} {bytes before after : List ℕ} {answer : Listed} → Lists sheet least bytes before answer after →
-    IsListed (counted sheet) least bytes before (answer .number) (answer .length) after
+    IsListed (viewOf sheet) least bytes before (answer .number) (answer .length) after
 list-is {sheet = sheet} {least = least} {bytes = bytes} {before = before} {answer = answer} call =
-    let promised : Sheet → ℕ → List ℕ → List ℕ → List ℕ → Type 0 = λ s v l b a. IsListed (counted s) v l b (answer .number) (answer .length) a in
+    let promised : Sheet → ℕ → List ℕ → List ℕ → List ℕ → Type 0 = λ s v l b a. IsListed (viewOf s) v l b (answer .number) (answer .length) a in
     let plan = now (call .lent .1 .1 .0) in
     let lent = now (call .lent .1 .1 .1 .0) in
     let left = now (call .at-exit .1 .1 .1 .0) in
@@ -144,14 +144,14 @@ same-listed a b e d =
     ap (λ (n : ℕ). given n (a .length)) e ∙ ap (given (b .number)) d
 
 -- sheets with equal views, listed with one least energy and one plan into equal buffers: equal answers and equal buffers
-pub list-determined : {s t : Sheet} {least : ℕ} {bytes before after after′ : List ℕ} {a b : Listed} → counted s ≡ counted t →
+pub list-determined : {s t : Sheet} {least : ℕ} {bytes before after after′ : List ℕ} {a b : Listed} → viewOf s ≡ viewOf t →
     Lists s least bytes before a after → Lists t least bytes before b after′ → (a ≡ b) × (after ≡ after′)
 list-determined {least = least} {bytes = bytes} {before = before} {a = a} {b = b} view first second =
     let one = list-is first in
     let two = list-is second in (
-      same-listed a b (one .number-is ∙ ap (λ (s : Counted). list s least bytes before .number) view ∙ sym (two .number-is))
-          (one .written-is ∙ ap (λ (s : Counted). list s least bytes before .written) view ∙ sym (two .written-is)),
-      one .buffer-is ∙ ap (λ (s : Counted). list s least bytes before .buffer) view ∙ sym (two .buffer-is),
+      same-listed a b (one .number-is ∙ ap (λ (s : View). list s least bytes before .number) view ∙ sym (two .number-is))
+          (one .written-is ∙ ap (λ (s : View). list s least bytes before .written) view ∙ sym (two .written-is)),
+      one .buffer-is ∙ ap (λ (s : View). list s least bytes before .buffer) view ∙ sym (two .buffer-is),
     )
 
 -- a state in memory is what the model says of it
@@ -172,37 +172,37 @@ same-stepped a b first second =
 
 -- what a start promises of this state and this sheet
 pub start-is : {state : State} {sheet : Sheet} {answer : Stepped} → Starts state sheet answer →
-    IsStepped (model-stepper.start (counted sheet) (stateOf state)) (answer .number) (answer .state)
+    IsStepped (model-stepper.start (viewOf sheet) (stateOf state)) (answer .number) (answer .state)
 start-is {state = state} {answer = answer} call =
     let promised : State → Sheet → Type 0 =
-    λ x s. IsStepped (model-stepper.start (counted s) (stateOf x)) (answer .number) (answer .state) in
+    λ x s. IsStepped (model-stepper.start (viewOf s) (stateOf x)) (answer .number) (answer .state) in
     let of-state = subst (λ (x : State). promised x (call .lent .1 .0)) (call .state-started) (call .contract) in
     subst (λ (s : Sheet). promised state s) (call .sheet-started) of-state
 
 -- sheets with equal views and the same state: the same answer
-pub start-determined : {state : State} {s t : Sheet} {a b : Stepped} → counted s ≡ counted t → Starts state s a → Starts state t b → a ≡ b
+pub start-determined : {state : State} {s t : Sheet} {a b : Stepped} → viewOf s ≡ viewOf t → Starts state s a → Starts state t b → a ≡ b
 start-determined {state = state} {a = a} {b = b} view first second =
     same-stepped a b
-    (subst (λ (s : Counted). IsStepped (model-stepper.start s (stateOf state)) (a .number) (a .state)) view (start-is first)) (start-is second)
+    (subst (λ (s : View). IsStepped (model-stepper.start s (stateOf state)) (a .number) (a .state)) view (start-is first)) (start-is second)
 
 -- speed
 
 -- what a speed call promises of this state, this sheet and this plan
 pub speed-is : {state : State} {sheet : Sheet} {bytes : List ℕ} {answer : Told} → Speeds state sheet bytes answer →
-    IsTold (model-stepper.speed (counted sheet) bytes (stateOf state)) (answer .number) (answer .speed)
+    IsTold (model-stepper.speed (viewOf sheet) bytes (stateOf state)) (answer .number) (answer .speed)
 speed-is {state = state} {sheet = sheet} {answer = answer} call =
     let promised : State → Sheet → List ℕ → Type 0 =
-    λ x s l. IsTold (model-stepper.speed (counted s) l (stateOf x)) (answer .number) (answer .speed) in
+    λ x s l. IsTold (model-stepper.speed (viewOf s) l (stateOf x)) (answer .number) (answer .speed) in
     let plan = now (call .lent .1 .1 .0) in
     let of-state = subst (λ (x : State). promised x (call .lent .1 .0) plan) (call .state-asked) (call .contract) in
     let of-sheet = subst (λ (s : Sheet). promised state s plan) (call .sheet-told) of-state in
     subst (λ (l : List ℕ). promised state sheet l) (call .plan-lent) of-sheet
 
 -- sheets with equal views, the same state and the same plan: the same answer
-pub speed-determined : {state : State} {s t : Sheet} {bytes : List ℕ} {a b : Told} → counted s ≡ counted t →
+pub speed-determined : {state : State} {s t : Sheet} {bytes : List ℕ} {a b : Told} → viewOf s ≡ viewOf t →
     Speeds state s bytes a → Speeds state t bytes b → a ≡ b
 speed-determined {state = state} {bytes = bytes} {a = a} {b = b} view first second =
-    let one = subst (λ (s : Counted). IsTold (model-stepper.speed s bytes (stateOf state)) (a .number) (a .speed)) view (speed-is first) in
+    let one = subst (λ (s : View). IsTold (model-stepper.speed s bytes (stateOf state)) (a .number) (a .speed)) view (speed-is first) in
     let two = speed-is second in
     let given : ℕ → ℕ → Told = λ n v. record { number = n; speed = v } in
     ap (λ (n : ℕ). given n (a .speed)) (one .number-is ∙ sym (two .number-is)) ∙ ap (given (b .number)) (one .speed-is ∙ sym (two .speed-is))
@@ -212,10 +212,10 @@ speed-determined {state = state} {bytes = bytes} {a = a} {b = b} view first seco
 -- what an advance promises of this state, this sheet, this plan and this arrival
 pub advance-is : {state : State} {sheet : Sheet} {bytes : List ℕ} {size deadline : ℕ} {answer : Stepped} →
     Advances state sheet bytes size deadline answer →
-    IsStepped (model-stepper.advance (counted sheet) bytes (stateOf state) size deadline) (answer .number) (answer .state)
+    IsStepped (model-stepper.advance (viewOf sheet) bytes (stateOf state) size deadline) (answer .number) (answer .state)
 advance-is {state = state} {sheet = sheet} {bytes = bytes} {size = size} {answer = answer} call =
     let promised : State → Sheet → List ℕ → ℕ → ℕ → Type 0 =
-    λ x s l c d. IsStepped (model-stepper.advance (counted s) l (stateOf x) c d) (answer .number) (answer .state) in
+    λ x s l c d. IsStepped (model-stepper.advance (viewOf s) l (stateOf x) c d) (answer .number) (answer .state) in
     let plan = now (call .lent .1 .1 .0) in
     let arriving = call .lent .1 .1 .1 .0 in
     let due = call .lent .1 .1 .1 .1 .0 in
@@ -226,9 +226,9 @@ advance-is {state = state} {sheet = sheet} {bytes = bytes} {size = size} {answer
     subst (λ (d : ℕ). promised state sheet bytes size d) (call .deadline-is) of-size
 
 -- sheets with equal views, the same state, the same plan and the same arrival: the same answer
-pub advance-determined : {state : State} {s t : Sheet} {bytes : List ℕ} {size deadline : ℕ} {a b : Stepped} → counted s ≡ counted t →
+pub advance-determined : {state : State} {s t : Sheet} {bytes : List ℕ} {size deadline : ℕ} {a b : Stepped} → viewOf s ≡ viewOf t →
     Advances state s bytes size deadline a → Advances state t bytes size deadline b → a ≡ b
 advance-determined {state = state} {bytes = bytes} {size = size} {deadline = deadline} {a = a} {b = b} view first second =
     same-stepped a b
-    (subst (λ (s : Counted). IsStepped (model-stepper.advance s bytes (stateOf state) size deadline) (a .number) (a .state)) view (advance-is first))
+    (subst (λ (s : View). IsStepped (model-stepper.advance s bytes (stateOf state) size deadline) (a .number) (a .state)) view (advance-is first))
     (advance-is second)

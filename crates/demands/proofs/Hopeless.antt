@@ -6,7 +6,7 @@ use mathlib.Core.List.{List}
 use mathlib.Core.Option.{Option, none, some}
 use lib.Dec.{T}
 use lib.ListN.{length}
-use Rattle.model.specs.Counted.{Counted, counted}
+use Rattle.model.specs.View.{View, viewOf}
 use Rattle.model.specs.Plan.{IsValueAt, planLines, planRefusal}
 use Rattle.model.specs.Queue.{Queue, positions}
 use Rattle.model.specs.Stepper.{stateRight}
@@ -28,8 +28,8 @@ use Rattle.demands.proofs.NoWay.{state-bearable, state-long, speed-is-1
 
 module _ {sheet : Sheet} {values₀ plan₀ values bytes : List ℕ} {a : PlanAnswer} (call : Plans sheet values₀ plan₀ a values bytes)
     (twelve : a .number ≡ 12) where
-  abbrev s : Counted
-  s = counted sheet
+  abbrev s : View
+  s = viewOf sheet
 
   -- the plan was not refused
   planned : planRefusal narrow s (length values₀) (length plan₀) ≡ 0

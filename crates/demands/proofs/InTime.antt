@@ -12,7 +12,7 @@ use native.Mathlib.Omega.{arith}
 use lib.Dec.{T}
 use lib.ListN.{length, getD}
 use Rattle.process.specs.Ways.{Way}
-use Rattle.model.specs.Counted.{Counted, counted, M}
+use Rattle.model.specs.View.{View, viewOf, M}
 use Rattle.model.specs.Plan.{placeOfQueue, byteOfQueue, planRefusal}
 use Rattle.model.specs.Queue.{Queue, total, bearable}
 use Rattle.model.specs.Stepper.{planByte}
@@ -40,9 +40,9 @@ use Rattle.demands.proofs.Determined.{speed-is}
 use Rattle.demands.proofs.Stepping.{never-refused}
 
 module _ {sheet : Sheet} {values₀ plan₀ values bytes : List ℕ} {a : PlanAnswer} (call : Plans sheet values₀ plan₀ a values bytes)
-    (planned : planRefusal narrow (counted sheet) (length values₀) (length plan₀) ≡ 0) where
-  abbrev s : Counted
-  s = counted sheet
+    (planned : planRefusal narrow (viewOf sheet) (length values₀) (length plan₀) ≡ 0) where
+  abbrev s : View
+  s = viewOf sheet
 
   -- the sheet keeps every range
   ranged : Ranged s

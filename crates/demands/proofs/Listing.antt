@@ -11,7 +11,7 @@ use lib.ListN.{length, drop}
 use Rattle.process.specs.Recursion.{UptoOr}
 use Rattle.process.proofs.Value.{value-some-is}
 use Rattle.model.specs.Bytes.{AreBytes}
-use Rattle.model.specs.Counted.{Counted, counted, weightAt, W, G}
+use Rattle.model.specs.View.{View, viewOf, weightAt, W, G}
 use Rattle.model.specs.Listing.{listing, listRefusal, list}
 use Rattle.model.specs.Plan.{processOf, IsValueAt, IsPlanByteAt, queueAt, byteAt, number12, FromEmpty, rowRefusal}
 use Rattle.model.specs.Plan as model-plan
@@ -31,7 +31,7 @@ use Rattle.demands.proofs.Demand2.{planned-by-number, planned-filled, a
 use Rattle.demands.proofs.Determined.{list-is}
 
 -- the least energy that a plan of number 0 answers is the empty queue's value at slot 0
-least-is-value : (s : Counted) (a : model-plan.PlanAnswer) → FromEmpty s a → a .number ≡ 0 →
+least-is-value : (s : View) (a : model-plan.PlanAnswer) → FromEmpty s a → a .number ≡ 0 →
     IsValueAt s 0 (emptyQueue (s .bound)) (some (a .least))
 least-is-value s a from-empty e = go (from-empty .r) (from-empty .is-value) (from-empty .number) (from-empty .least)
   where
@@ -42,7 +42,7 @@ least-is-value s a from-empty e = go (from-empty .r) (from-empty .is-value) (fro
         subst (λ (u : ℕ). IsValueAt s 0 (emptyQueue (s .bound)) (some u)) (sym least) is-value
 
 -- and it is below 2^64: number 9 keeps every value below 2^63
-least-fits : (s : Counted) → sheetRefusal valueLimit s ≡ 0 → (v : ℕ) → IsValueAt s 0 (emptyQueue (s .bound)) (some v) → v < 2 ^ 64
+least-fits : (s : View) → sheetRefusal valueLimit s ≡ 0 → (v : ℕ) → IsValueAt s 0 (emptyQueue (s .bound)) (some v) → v < 2 ^ 64
 least-fits s e v is-value =
     let right = accepted s e in
     let w = emptyQueue (s .bound) in
@@ -54,9 +54,9 @@ least-fits s e v is-value =
 module _ {sheet : Sheet} {values₀ plan₀ values bytes : List ℕ} {p : PlanAnswer} (planned : Plans sheet values₀ plan₀ p values bytes)
     (done : p .number ≡ 0) {before after : List ℕ} {a : Listed} (call : Lists sheet (p .least) bytes before a after) where
   -- it is not refused exactly where the buffer has room for the listing
-  pub listing-done : (a .number ≡ 0) ↔ (length (listing (counted sheet) (p .least) bytes) ≤ length before)
+  pub listing-done : (a .number ≡ 0) ↔ (length (listing (viewOf sheet) (p .least) bytes) ≤ length before)
   listing-done =
-      let s = counted sheet in
+      let s = viewOf sheet in
       let accepted = planned-by-number planned done in
       let tested = plan-accepted s narrow (length values₀) (length plan₀) accepted in
       let long = planned-filled planned accepted .in-plan .same-length in
@@ -68,9 +68,9 @@ module _ {sheet : Sheet} {values₀ plan₀ values bytes : List ℕ} {p : PlanAn
 
   -- so 66 bytes, and for each slot five and four for each queue, are always enough
   pub listing-enough : AreBytes bytes →
-      66 + counted sheet .horizon * (5 + 4 * N (counted sheet)) ≤ length before → a .number ≡ 0
+      66 + viewOf sheet .horizon * (5 + 4 * N (viewOf sheet)) ≤ length before → a .number ≡ 0
   listing-enough are-bytes room =
-      let s = counted sheet in
+      let s = viewOf sheet in
       let not-refused = planned-by-number planned done in
       let tested = plan-accepted s narrow (length values₀) (length plan₀) not-refused in
       let fits = least-fits s (tested .0) (p .least) (least-is-value s (answered p) (answer-right planned not-refused .1) done) in
@@ -79,14 +79,14 @@ module _ {sheet : Sheet} {values₀ plan₀ values bytes : List ℕ} {p : PlanAn
   -- and then it is the listing of these bytes, and what stood behind it stands there; its header tells the empty queue's value at slot 0,
   -- and each byte that it lists is the slowest speed that begins a least way, or 255 where there is none
   pub listing-right : a .number ≡ 0 →
-      let s = counted sheet in
+      let s = viewOf sheet in
       (a .length ≡ length (listing s (p .least) bytes)) ×
       (after ≡ listing s (p .least) bytes ++ drop (length (listing s (p .least) bytes)) before) ×
       IsValueAt s 0 (emptyQueue (s .bound)) (some (p .least)) ×
       ((t i : ℕ) → t < s .horizon → i < N s → IsPlanByteAt s t (queueAt s i) (byteAt s bytes t i))
   unfolding list
   listing-right e =
-      let s = counted sheet in
+      let s = viewOf sheet in
       let accepted = planned-by-number planned done in
       let promised = list-is call in
       let none : listRefusal s (p .least) bytes (length before) ≡ 0 = sym (list-number s (p .least) bytes before) ∙ sym (promised .number-is) ∙ e in (

@@ -10,7 +10,7 @@ use native.Mathlib.Omega.{arith}
 use lib.Dec.{T}
 use lib.ListN.{length}
 use Rattle.process.specs.Ways.{Way, Good}
-use Rattle.model.specs.Counted.{Counted, counted, M}
+use Rattle.model.specs.View.{View, viewOf, M}
 use Rattle.model.specs.Plan.{processOf, IsPlanByte, noSpeed, byteOfQueue, planRefusal}
 use Rattle.model.specs.Queue.{Queue, positions, bearable}
 use Rattle.model.specs.Stepper as model
@@ -34,22 +34,22 @@ use Rattle.demands.proofs.Determined.{state-same, speed-is, advance-is}
 use Rattle.demands.proofs.Stepping.{has-room}
 
 -- with no slot left, every way from a bearable queue is good
-good-at-end : (s : Counted) (w : Queue) → T (bearable (M s) w) → (σ : Way) → Good (processOf s) (s .jobCount) 0 w σ
+good-at-end : (s : View) (w : Queue) → T (bearable (M s) w) → (σ : Way) → Good (processOf s) (s .jobCount) 0 w σ
 unfolding processOf
 good-at-end s w b σ [] e = b
 good-at-end s w b σ (i ∷ l) e = absurd e
 
 -- the queue of a state that passes 13 is bearable
-pub state-bearable : (sheet : Sheet) (x : State) → T (model.stateRight (counted sheet) (stateOf x)) →
-    T (bearable (M (counted sheet)) (queueOfState sheet x))
+pub state-bearable : (sheet : Sheet) (x : State) → T (model.stateRight (viewOf sheet) (stateOf x)) →
+    T (bearable (M (viewOf sheet)) (queueOfState sheet x))
 state-bearable sheet x right =
-    let s = counted sheet in
+    let s = viewOf sheet in
     held-bearable (M s) (s .bound) (x .queue) (state-right s (stateOf x) right .0)
 
 module _ {sheet : Sheet} {values₀ plan₀ values bytes : List ℕ} {a : PlanAnswer} (call : Plans sheet values₀ plan₀ a values bytes)
-    (planned : planRefusal narrow (counted sheet) (length values₀) (length plan₀) ≡ 0) where
-  abbrev s : Counted
-  s = counted sheet
+    (planned : planRefusal narrow (viewOf sheet) (length values₀) (length plan₀) ≡ 0) where
+  abbrev s : View
+  s = viewOf sheet
 
   -- the queue of a state has D positions. That it stands in six places is what the machine gives
   pub state-long : (x : State) → length (x .queue) ≡ positions → length (queueOfState sheet x) ≡ s .bound

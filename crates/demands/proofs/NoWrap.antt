@@ -10,11 +10,11 @@ use native.Mathlib.Omega.{arith}
 use borrow.Author.Tests.{leb-true, leb-false}
 use lib.Dec.{T, leb}
 use lib.ListN.{length}
-use Rattle.model.specs.Counted.{Counted, counted, energyOf, M}
+use Rattle.model.specs.View.{View, viewOf, energyOf, M}
 use Rattle.model.specs.Queue.{Queue, total, positions, placesOf, bearable, oneSlot}
 use Rattle.model.specs.Stepper as model
 use Rattle.model.specs.declared.Sheet.{Sheet}
-use Rattle.model.proofs.Counted.{speed-least, place-of}
+use Rattle.model.proofs.View.{speed-least, place-of}
 use Rattle.model.proofs.Queues.{length-in, length-slot, length-places, total-places, total-past, total-slot, in-first-places, bearable-upto}
 use Rattle.model.proofs.Refusal.{Ranged, accepted}
 use Rattle.laws.proofs.Rooms.{row-accepted}
@@ -48,8 +48,8 @@ added-is size deadline u = go (leb deadline u) refl
     go false e = inr (leb-false deadline u e, refl)
 
 module _ (sheet : Sheet) (bytes : List ℕ) (x : State) where
-  abbrev s : Counted
-  s = counted sheet
+  abbrev s : View
+  s = viewOf sheet
 
   -- the state, as the model says it
   abbrev before : model.State

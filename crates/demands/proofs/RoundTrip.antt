@@ -8,9 +8,9 @@ use lib.ListN.{length, take, replicate, length-append, length-replicate}
 use lib.Seq.{length-take-le}
 use native.Mathlib.Omega.{arith}
 use Rattle.model.proofs.Refusal.{accepted}
-use Rattle.laws.proofs.RoundTrip.{counted-well, counted-in-memory, accepted-read, written-accepted, write-number, write-fits, write-short, written-out}
+use Rattle.laws.proofs.RoundTrip.{view-whole, view-in-memory, accepted-read, written-accepted, write-number, write-fits, write-short, written-out}
 use Rattle.model.specs.Bytes.{AreBytes, sheetBytes, BytesOf}
-use Rattle.model.specs.Counted.{counted, inMemory, zeroSpeed, zeroJob}
+use Rattle.model.specs.View.{viewOf, inMemory, zeroSpeed, zeroJob}
 use Rattle.model.specs.Reading.{read}
 use Rattle.model.specs.Refusal.{sheetRefusal, valueLimit}
 use Rattle.model.specs.Tests.{padded}
@@ -24,13 +24,13 @@ use Rattle.demands.proofs.Determined.{read-is, write-is}
 -- place past its counts; so it is the same sheet in every place that counts
 pub write-then-read : {sheet : Sheet} {before after : List ℕ} {w : Written} {r : ReadSheet} → HasPlaces sheet →
     Writes sheet before w after → w .number ≡ 0 → Reads (take (w .length) after) r →
-    (r .number ≡ 0) × (r .sheet ≡ inMemory (counted sheet)) × (counted (r .sheet) ≡ counted sheet)
+    (r .number ≡ 0) × (r .sheet ≡ inMemory (viewOf sheet)) × (viewOf (r .sheet) ≡ viewOf sheet)
 write-then-read {sheet = sheet} {before = before} {after = after} {w = w} places writing done reading =
-    let s = counted sheet in
+    let s = viewOf sheet in
     let written = write-is writing in
     let out = written-out s before (sym (written .number-is) ∙ done) in
     let right = accepted s (out .is-accepted) .ranged in
-    let well = counted-well sheet (places .nine) (places .thirty-two) (right .speeds-high) (right .jobs-high) in
+    let well = view-whole sheet (places .nine) (places .thirty-two) (right .speeds-high) (right .jobs-high) in
     let bytes : take (w .length) after ≡ sheetBytes s =
     ap (λ (n : ℕ). take n after) (written .written-is ∙ out .length-is) ∙
     ap (λ (l : List ℕ). take (length (sheetBytes s)) l) (written .buffer-is) ∙ out .bytes-stand in
@@ -39,16 +39,16 @@ write-then-read {sheet = sheet} {before = before} {after = after} {w = w} places
     let memory = promised .sheet-is ∙ ap (λ (l : List ℕ). read l .sheet) bytes ∙ given .1 in (
       promised .number-is ∙ ap (λ (l : List ℕ). read l .number) bytes ∙ given .0,
       memory,
-      ap counted memory ∙ counted-in-memory s well (right .speeds-high) (right .jobs-high),
+      ap viewOf memory ∙ view-in-memory s well (right .speeds-high) (right .jobs-high),
     )
 
 -- of an accepted read: the places of the sheet that count are those of one accepted sheet, whose bytes were read
-from-read : {bytes : List ℕ} {r : ReadSheet} → AreBytes bytes → Reads bytes r → r .number ≡ 0 → BytesOf bytes (counted (r .sheet))
+from-read : {bytes : List ℕ} {r : ReadSheet} → AreBytes bytes → Reads bytes r → r .number ≡ 0 → BytesOf bytes (viewOf (r .sheet))
 from-read {bytes = bytes} are reading done =
     let promised = read-is reading in
     let (s, right, sheet) = accepted-read bytes are (sym (promised .number-is) ∙ done) in
     let high = accepted s (right .is-accepted) .ranged in
-    let view = ap counted (promised .sheet-is ∙ sheet) ∙ counted-in-memory s (right .well-counted) (high .speeds-high) (high .jobs-high) in
+    let view = ap viewOf (promised .sheet-is ∙ sheet) ∙ view-in-memory s (right .whole-view) (high .speeds-high) (high .jobs-high) in
     subst (BytesOf bytes) (sym view) right
 
 -- "an accepted read then write gives the same bytes", where the buffer has room for them; else the write is refused with 11
@@ -57,7 +57,7 @@ pub read-then-write : {bytes before after : List ℕ} {r : ReadSheet} {w : Writt
     Writes (r .sheet) before w after → length bytes ≤ length before →
     (w .number ≡ 0) × (w .length ≡ length bytes) × (take (w .length) after ≡ bytes)
 read-then-write {bytes = bytes} {before = before} {after = after} {r = r} {w = w} are reading done writing room =
-    let s = counted (r .sheet) in
+    let s = viewOf (r .sheet) in
     let right = from-read are reading done in
     let written = write-is writing in
     let fits = write-fits s (length before) (right .is-accepted) (subst (λ (l : List ℕ). length l ≤ length before) (right .bytes-are) room) in
@@ -73,7 +73,7 @@ read-then-write {bytes = bytes} {before = before} {after = after} {r = r} {w = w
 pub read-then-write-short : {bytes before after : List ℕ} {r : ReadSheet} {w : Written} → AreBytes bytes → Reads bytes r → r .number ≡ 0 →
     Writes (r .sheet) before w after → length before < length bytes → w .number ≡ 11
 read-then-write-short {before = before} {r = r} are reading done writing short =
-    let s = counted (r .sheet) in
+    let s = viewOf (r .sheet) in
     let right = from-read are reading done in
     write-is writing .number-is ∙ write-number s before ∙
     write-short s (length before) (right .is-accepted) (subst (λ (l : List ℕ). length before < length l) (right .bytes-are) short)
@@ -84,10 +84,10 @@ padded-length n z l = length-take-le n (l ++ replicate n z) (omega (arith, lengt
 
 -- a read is accepted exactly when the bytes are those of an accepted sheet
 pub accepted-exactly : {bytes : List ℕ} {r : ReadSheet} → AreBytes bytes → Reads bytes r →
-    (r .number ≡ 0) ↔ ((sheet : Sheet) × HasPlaces sheet × (sheetRefusal valueLimit (counted sheet) ≡ 0) × (bytes ≡ sheetBytes (counted sheet)))
+    (r .number ≡ 0) ↔ ((sheet : Sheet) × HasPlaces sheet × (sheetRefusal valueLimit (viewOf sheet) ≡ 0) × (bytes ≡ sheetBytes (viewOf sheet)))
 accepted-exactly {bytes = bytes} {r = r} are reading = (there, back)
   where
-    there : r .number ≡ 0 → (sheet : Sheet) × HasPlaces sheet × (sheetRefusal valueLimit (counted sheet) ≡ 0) × (bytes ≡ sheetBytes (counted sheet))
+    there : r .number ≡ 0 → (sheet : Sheet) × HasPlaces sheet × (sheetRefusal valueLimit (viewOf sheet) ≡ 0) × (bytes ≡ sheetBytes (viewOf sheet))
     there done =
         let promised = read-is reading in
         let (s, right, sheet) = accepted-read bytes are (sym (promised .number-is) ∙ done) in
@@ -100,8 +100,8 @@ accepted-exactly {bytes = bytes} {r = r} are reading = (there, back)
         let these = from-read are reading done in
         (r .sheet, places, these .is-accepted, these .bytes-are)
 
-    back : (sheet : Sheet) × HasPlaces sheet × (sheetRefusal valueLimit (counted sheet) ≡ 0) × (bytes ≡ sheetBytes (counted sheet)) → r .number ≡ 0
+    back : (sheet : Sheet) × HasPlaces sheet × (sheetRefusal valueLimit (viewOf sheet) ≡ 0) × (bytes ≡ sheetBytes (viewOf sheet)) → r .number ≡ 0
     back (sheet, places, e, bytes-are) =
-        let right = accepted (counted sheet) e .ranged in
-        let well = counted-well sheet (places .nine) (places .thirty-two) (right .speeds-high) (right .jobs-high) in
-        read-is reading .number-is ∙ ap (λ (l : List ℕ). read l .number) bytes-are ∙ written-accepted (counted sheet) e well .0
+        let right = accepted (viewOf sheet) e .ranged in
+        let well = view-whole sheet (places .nine) (places .thirty-two) (right .speeds-high) (right .jobs-high) in
+        read-is reading .number-is ∙ ap (λ (l : List ℕ). read l .number) bytes-are ∙ written-accepted (viewOf sheet) e well .0

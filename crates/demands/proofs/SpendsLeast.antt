@@ -8,7 +8,7 @@ use native.Mathlib.Nat.{zero-add, sub-zero, le-refl, le-of-lt}
 use native.Mathlib.Omega.{arith}
 use lib.ListN.{length, getD}
 use Rattle.process.specs.Ways.{Way, spent, IsLeast}
-use Rattle.model.specs.Counted.{Counted, counted, weightAt}
+use Rattle.model.specs.View.{View, viewOf, weightAt}
 use Rattle.model.specs.Plan.{processOf, planRefusal}
 use Rattle.model.specs.Refusal.{sheetRefusal, valueLimit}
 use Rattle.model.specs.declared.Sheet.{Sheet}
@@ -22,9 +22,9 @@ use Rattle.demands.specs.Runs.{queueOfState, Begins, stateAfter, queueAf
 use Rattle.demands.proofs.Stepping.{right-plan, going, long, never-refused, start-begins}
 
 module _ {sheet : Sheet} {values₀ plan₀ values bytes : List ℕ} {a : PlanAnswer} (call : Plans sheet values₀ plan₀ a values bytes)
-    (planned : planRefusal narrow (counted sheet) (length values₀) (length plan₀) ≡ 0) where
-  abbrev s : Counted
-  s = counted sheet
+    (planned : planRefusal narrow (viewOf sheet) (length values₀) (length plan₀) ≡ 0) where
+  abbrev s : View
+  s = viewOf sheet
 
   -- the sheet is accepted
   passed : sheetRefusal valueLimit s ≡ 0

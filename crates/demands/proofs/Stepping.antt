@@ -11,7 +11,7 @@ use native.Mathlib.Omega.{arith}
 use lib.Dec.{T}
 use lib.ListN.{length, getD}
 use Rattle.process.specs.Sums.{sum}
-use Rattle.model.specs.Counted.{Counted, counted, sizeAt, deadlineAt, energyOf, M}
+use Rattle.model.specs.View.{View, viewOf, sizeAt, deadlineAt, energyOf, M}
 use Rattle.model.specs.Plan.{IsPlanByte, planRefusal, rowRefusal, byteOfQueue}
 use Rattle.model.specs.Queue.{Queue, bearable, queueIn, oneSlot}
 use Rattle.model.specs.Refusal.{sheetRefusal, valueLimit}
@@ -36,9 +36,9 @@ use Rattle.demands.proofs.Demand2.{planned-filled, byte-right}
 use Rattle.demands.proofs.Determined.{state-same, start-is, speed-is, advance-is}
 
 module _ {sheet : Sheet} {values₀ plan₀ values bytes : List ℕ} {a : PlanAnswer} (call : Plans sheet values₀ plan₀ a values bytes)
-    (planned : planRefusal narrow (counted sheet) (length values₀) (length plan₀) ≡ 0) where
-  abbrev s : Counted
-  s = counted sheet
+    (planned : planRefusal narrow (viewOf sheet) (length values₀) (length plan₀) ≡ 0) where
+  abbrev s : View
+  s = viewOf sheet
 
   -- what the plan gives
 
@@ -162,7 +162,7 @@ module _ {sheet : Sheet} {values₀ plan₀ values bytes : List ℕ} {a : PlanAn
         let g = going k (le-of-lt h) in
         let w = model.queueOf s (state k) in
         let told = told-so k h g in
-        let at-slot = byte-at s bytes (state k) ∙ ap (λ (u : ℕ). byteOfQueue (counted sheet) bytes u w) (g .at-slot) in
+        let at-slot = byte-at s bytes (state k) ∙ ap (λ (u : ℕ). byteOfQueue (viewOf sheet) bytes u w) (g .at-slot) in
         record {
           speed-answers = told .0;
           speed-is = told .1 ∙ at-slot;

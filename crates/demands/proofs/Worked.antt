@@ -7,7 +7,7 @@ use native.Mathlib.Nat.{le-of-lt, mul-one}
 use native.Mathlib.Omega.{arith}
 use lib.ListN.{length, getD}
 use Rattle.model.specs.Cases.{A, A0, A1, valuesA0, valuesA1, hopeless, none64, planned, Holds, casesOfA, casesOfHopeless, IsPlanOfA, IsPlanOfHopeless}
-use Rattle.model.specs.Counted.{Counted, counted}
+use Rattle.model.specs.View.{View, viewOf}
 use Rattle.model.specs.Plan.{placeAt, queueAt, valuePlaces, planNeeded, PlanAnswer, FromEmpty, Filled}
 use Rattle.model.specs.Refusal.{N, sheetRefusal, valueLimit}
 use Rattle.model.specs.declared.Sheet.{Sheet}
@@ -20,17 +20,17 @@ use Rattle.demands.proofs.Demand2.{planned-by-room, planned-filled}
 
 -- a plan of a sheet with the view s, which has n queues, lent room for both tables
 module _ {sheet : Sheet} {values₀ plan₀ values bytes : List ℕ} {a : code.PlanAnswer} (call : Plans sheet values₀ plan₀ a values bytes)
-    (s : Counted) (view : counted sheet ≡ s) (accepted : sheetRefusal valueLimit s ≡ 0) (n : ℕ) (many : N s ≡ n)
+    (s : View) (view : viewOf sheet ≡ s) (accepted : sheetRefusal valueLimit s ≡ 0) (n : ℕ) (many : N s ≡ n)
     (values-room : suc (s .horizon) * n ≤ length values₀) (plan-room : s .horizon * n ≤ length plan₀) where
   -- the lent memory is filled
   filled : Filled narrow s values₀ plan₀ values bytes (answered a)
   filled =
-      subst (λ (z : Counted). Filled narrow z values₀ plan₀ values bytes (answered a)) view
+      subst (λ (z : View). Filled narrow z values₀ plan₀ values bytes (answered a)) view
       (planned-filled call
-      (planned-by-room (counted sheet) (length values₀) (length plan₀) (ap (sheetRefusal valueLimit) view ∙ accepted)
-      (subst (λ (z : Counted). valuePlaces narrow z ≤ length values₀) (sym view)
+      (planned-by-room (viewOf sheet) (length values₀) (length plan₀) (ap (sheetRefusal valueLimit) view ∙ accepted)
+      (subst (λ (z : View). valuePlaces narrow z ≤ length values₀) (sym view)
       (subst (λ (m : ℕ). suc (s .horizon) * m * 1 ≤ length values₀) (sym many) (rw mul-one values-room)))
-      (subst (λ (z : Counted). planNeeded z ≤ length plan₀) (sym view) (subst (λ (m : ℕ). s .horizon * m ≤ length plan₀) (sym many) plan-room))))
+      (subst (λ (z : View). planNeeded z ≤ length plan₀) (sym view) (subst (λ (m : ℕ). s .horizon * m ≤ length plan₀) (sym many) plan-room))))
 
   -- where a row of values and one of plan bytes are right for a slot, these rows are left
   row-left : (t : ℕ) (row plan : List ℕ) → Holds (planned s t row plan) → t < s .horizon → (i place : ℕ) → place ≡ t * n + i → i < n →
@@ -53,7 +53,7 @@ module _ {sheet : Sheet} {values₀ plan₀ values bytes : List ℕ} {a : code.P
 
 -- sheet A, planned in any lent memory with room, leaves and answers this
 pub plan-of-A : {sheet : Sheet} {values₀ plan₀ values bytes : List ℕ} {a : code.PlanAnswer} → Plans sheet values₀ plan₀ a values bytes →
-    counted sheet ≡ A → 36 ≤ length values₀ → 24 ≤ length plan₀ → IsPlanOfA values bytes (answered a)
+    viewOf sheet ≡ A → 36 ≤ length values₀ → 24 ≤ length plan₀ → IsPlanOfA values bytes (answered a)
 unfolding casesOfA
 plan-of-A call view h k =
     let accepted = A-holds .0 in
@@ -68,7 +68,7 @@ plan-of-A call view h k =
 
 -- the sheet that gives 12, planned in any lent memory with room, leaves and answers this
 pub plan-of-hopeless : {sheet : Sheet} {values₀ plan₀ values bytes : List ℕ} {a : code.PlanAnswer} → Plans sheet values₀ plan₀ a values bytes →
-    counted sheet ≡ hopeless → 4 ≤ length values₀ → 2 ≤ length plan₀ → IsPlanOfHopeless values bytes (answered a)
+    viewOf sheet ≡ hopeless → 4 ≤ length values₀ → 2 ≤ length plan₀ → IsPlanOfHopeless values bytes (answered a)
 unfolding casesOfHopeless
 plan-of-hopeless call view h k =
     let accepted = hopeless-holds .0 in

@@ -9,7 +9,7 @@ use contract.Lifetimes.{Lfts}
 use denote.Ref.{now}
 use lib.ListN.{length}
 use denote.Triple.Clauses.{AtExit}
-use Rattle.model.specs.Counted.{Counted}
+use Rattle.model.specs.View.{View}
 use Rattle.model.specs.Plan.{IsValueAt}
 use Rattle.model.specs.Plan as model-plan
 use Rattle.model.specs.Queue.{emptyQueue}
@@ -78,7 +78,7 @@ abbrev pub answered : PlanAnswer → model-plan.PlanAnswer
 answered a = record { number = a .number; queues = a .queues; least = a .least }
 
 -- "12: planned, but the empty queue at slot 0 has none": the value by which `plan` tells 12
-abbrev pub IsValueOfEmpty : Counted → Option ℕ → Type 0
+abbrev pub IsValueOfEmpty : View → Option ℕ → Type 0
 IsValueOfEmpty s r = IsValueAt s 0 (emptyQueue (s .bound)) r
 
 -- `row` was given this sheet, lent this plan and asked for this slot; it answered this part

@@ -4,7 +4,7 @@ use Prim.Native.Nat.{ℕ}
 use mathlib.Core.Path.{_≡_}
 use mathlib.Core.List.{List}
 use lib.ListN.{getD}
-use Rattle.model.specs.Counted.{counted, M}
+use Rattle.model.specs.View.{viewOf, M}
 use Rattle.model.specs.Tests.{listed}
 use Rattle.model.specs.declared.Sheet.{Sheet}
 use Rattle.jobs.specs.Given.{EachJob, ByDeadline}
@@ -17,7 +17,7 @@ use Rattle.demands.specs.Runs.{queueAfter, Run}
 module _ (sheet : Sheet) (bytes : List ℕ) {from : State} {arrivals : List ℕ} (run : Run sheet bytes from arrivals) where
   -- the slot that follows k slots: the speed told, and then the arrival
   abbrev pub slotAt : ℕ → Slot
-  slotAt k = slotOf (counted sheet) (run .told k .speed) (getD arrivals k 0)
+  slotAt k = slotOf (viewOf sheet) (run .told k .speed) (getD arrivals k 0)
 
   -- the run's first k slots
   abbrev pub firstSlots : ℕ → List Slot
@@ -34,6 +34,6 @@ module _ (sheet : Sheet) (bytes : List ℕ) {from : State} {arrivals : List ℕ}
     -- each job that was due by now, whether it waited as the run began or has come since, was given all its work by its deadline
     pub all-done : EachJob ByDeadline p (firstSlots k) (earliestRun p (firstSlots k))
     -- the state's queue is that of the jobs that wait
-    pub queue-is : queueOfPool (counted sheet .bound) (poolNow p k) ≡ queueAfter sheet from (run .stepped) k
+    pub queue-is : queueOfPool (viewOf sheet .bound) (poolNow p k) ≡ queueAfter sheet from (run .stepped) k
     -- and these can be finished
-    pub finishable : Finishable (M (counted sheet)) (counted sheet .bound) (poolNow p k)
+    pub finishable : Finishable (M (viewOf sheet)) (viewOf sheet .bound) (poolNow p k)

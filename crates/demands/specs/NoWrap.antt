@@ -4,7 +4,7 @@ use Prim.Native.Nat.{ℕ, suc, _+_, _*_, _≤_, _<_}
 use mathlib.Core.Path.{_≡_}
 use mathlib.Core.Logic.{_⊎_}
 use lib.Dec.{T}
-use Rattle.model.specs.Counted.{counted, onSheet, energyOf, M}
+use Rattle.model.specs.View.{viewOf, onSheet, energyOf, M}
 use Rattle.model.specs.Queue.{total}
 use Rattle.model.specs.declared.Sheet.{Sheet}
 use Rattle.stepper.specs.declared.state.State.{State}
@@ -37,17 +37,17 @@ pub record Fits (x : State) : Type 0 where
 
 -- a speed that is told in a state is on the sheet, and enough for what is due within one slot
 pub record SpeedEnough (sheet : Sheet) (x : State) (speed : ℕ) : Type 0 where
-  pub on-sheet : T (onSheet (counted sheet) speed)
+  pub on-sheet : T (onSheet (viewOf sheet) speed)
   pub enough : work x 1 ≤ speed
 
 -- what a slot at this speed and then this arrival make of the counts of `before`
 pub record NoneWraps (sheet : Sheet) (before : State) (speed size deadline : ℕ) (after : State) : Type 0 where
   -- "w'(u) = w(u+1) - s, or 0 if that is negative, with w(D) standing for w(D+1)"; "c is added to w'(u) for every u from d to D"
-  pub carried : (u : ℕ) → 1 ≤ u → u < counted sheet .bound → IsCarried (work before (suc u)) speed size deadline u (work after u)
-  pub carried-last : let D = counted sheet .bound in IsCarried (work before D) speed size deadline D (work after D)
+  pub carried : (u : ℕ) → 1 ≤ u → u < viewOf sheet .bound → IsCarried (work before (suc u)) speed size deadline u (work after u)
+  pub carried-last : let D = viewOf sheet .bound in IsCarried (work before D) speed size deadline D (work after D)
   -- what is left can be finished: no total is above u times M, and past D nothing stands
-  pub finishable : (u : ℕ) → u ≤ counted sheet .bound → work after u ≤ u * M (counted sheet)
-  pub unused : (u : ℕ) → counted sheet .bound < u → work after u ≡ 0
+  pub finishable : (u : ℕ) → u ≤ viewOf sheet .bound → work after u ≤ u * M (viewOf sheet)
+  pub unused : (u : ℕ) → viewOf sheet .bound < u → work after u ≡ 0
   pub slot-is : after .slot ≡ suc (before .slot)
-  pub energy-is : after .energy ≡ before .energy + energyOf (counted sheet) speed
+  pub energy-is : after .energy ≡ before .energy + energyOf (viewOf sheet) speed
   pub fits : Fits after

@@ -7,7 +7,7 @@ use mathlib.Core.List.{List}
 use lib.Dec.{T}
 use lib.ListN.{length, getD}
 use Rattle.process.specs.Sums.{sum}
-use Rattle.model.specs.Counted.{counted, sizeAt, deadlineAt, energyOf, greatestEnergy, M}
+use Rattle.model.specs.View.{viewOf, sizeAt, deadlineAt, energyOf, greatestEnergy, M}
 use Rattle.model.specs.Plan.{HasValue, byteOfQueue}
 use Rattle.model.specs.Queue.{Queue, positions, unusedZero, bearable, oneSlot}
 use Rattle.model.specs.Stepper.{queueOf}
@@ -20,15 +20,15 @@ use Rattle.demands.specs.Calls.{Starts, Speeds, Advances}
 
 -- w(1) to w(D) of a state
 abbrev pub queueOfState : Sheet → State → Queue
-queueOfState sheet x = queueOf (counted sheet) (stateOf x)
+queueOfState sheet x = queueOf (viewOf sheet) (stateOf x)
 
 -- a state that a run may begin with: "a queue that has one", a value at the state's slot; and 13 finds nothing else wrong with it. That a
 -- queue stands in six places is what the machine gives
 pub record Begins (sheet : Sheet) (from : State) : Type 0 where
   pub six : length (from .queue) ≡ positions
-  pub unused : T (unusedZero (counted sheet .bound) (from .queue))
-  pub energy-upto : from .energy ≤ from .slot * greatestEnergy (counted sheet)
-  pub has-value : HasValue (counted sheet) (from .slot) (queueOfState sheet from)
+  pub unused : T (unusedZero (viewOf sheet .bound) (from .queue))
+  pub energy-upto : from .energy ≤ from .slot * greatestEnergy (viewOf sheet)
+  pub has-value : HasValue (viewOf sheet) (from .slot) (queueOfState sheet from)
 
 -- the state after k slots: the one that the run begins with, and then each one that the last advance handed back
 abbrev pub stateAfter : State → (ℕ → Stepped) → ℕ → State
@@ -42,7 +42,7 @@ pub record Run (sheet : Sheet) (bytes : List ℕ) (from : State) (arrivals : Lis
   pub speeds : (k : ℕ) → k < length arrivals → Speeds (stateAfter from stepped k) sheet bytes (told k)
   pub advances : (k : ℕ) → k < length arrivals →
       Advances (stateAfter from stepped k) sheet bytes
-      (sizeAt (counted sheet) (getD arrivals k 0)) (deadlineAt (counted sheet) (getD arrivals k 0)) (stepped k)
+      (sizeAt (viewOf sheet) (getD arrivals k 0)) (deadlineAt (viewOf sheet) (getD arrivals k 0)) (stepped k)
 
 -- w(1) to w(D) after k slots
 abbrev pub queueAfter : Sheet → State → (ℕ → Stepped) → ℕ → Queue
@@ -53,10 +53,10 @@ pub record Stands (sheet : Sheet) (bytes : List ℕ) {from : State} {arrivals : 
     (k : ℕ) : Type 0 where
   pub slot-is : stateAfter from (run .stepped) k .slot ≡ from .slot + k
   -- the energy spent has grown by the sum of the energies of the speeds told
-  pub energy-is : stateAfter from (run .stepped) k .energy ≡ from .energy + sum (λ j. energyOf (counted sheet) (run .told j .speed)) k
+  pub energy-is : stateAfter from (run .stepped) k .energy ≡ from .energy + sum (λ j. energyOf (viewOf sheet) (run .told j .speed)) k
   -- the queue is bearable and has a value
-  pub is-bearable : T (bearable (M (counted sheet)) (queueAfter sheet from (run .stepped) k))
-  pub has-value : HasValue (counted sheet) (from .slot + k) (queueAfter sheet from (run .stepped) k)
+  pub is-bearable : T (bearable (M (viewOf sheet)) (queueAfter sheet from (run .stepped) k))
+  pub has-value : HasValue (viewOf sheet) (from .slot + k) (queueAfter sheet from (run .stepped) k)
 
 -- the slot that follows: neither call is refused, the speed is the plan's, and the next queue is what the slot and the arrival make of this
 -- one
@@ -64,11 +64,11 @@ pub record Steps (sheet : Sheet) (bytes : List ℕ) {from : State} {arrivals : L
     (k : ℕ) : Type 0 where
   pub speed-answers : run .told k .number ≡ 0
   pub speed-is : run .told k .speed ≡
-      byteOfQueue (counted sheet) bytes (from .slot + k) (queueAfter sheet from (run .stepped) k)
+      byteOfQueue (viewOf sheet) bytes (from .slot + k) (queueAfter sheet from (run .stepped) k)
   pub advance-answers : run .stepped k .number ≡ 0
   pub queue-is : queueAfter sheet from (run .stepped) (suc k) ≡
       oneSlot (queueAfter sheet from (run .stepped) k) (run .told k .speed)
-      (sizeAt (counted sheet) (getD arrivals k 0)) (deadlineAt (counted sheet) (getD arrivals k 0))
+      (sizeAt (viewOf sheet) (getD arrivals k 0)) (deadlineAt (viewOf sheet) (getD arrivals k 0))
 
 -- the whole run
 pub record NeverRefused (sheet : Sheet) (bytes : List ℕ) {from : State} {arrivals : List ℕ}

@@ -11,7 +11,7 @@ use native.Mathlib.Omega.{arith}
 use borrow.Author.Tests.{leb-true, leb-false}
 use lib.Dec.{T, leb}
 use lib.ListN.{length}
-use Rattle.model.specs.Counted.{Counted}
+use Rattle.model.specs.View.{View}
 use Rattle.model.specs.Queue.{Queue, total, NeverFalls, NoLonger, bearable, queueCount, numberOf, arrive}
 use Rattle.laws.proofs.Longer.{no-longer-by, arrive-never-falls, bearable-carries}
 use Rattle.model.proofs.Queues.{length-arrive, total-arrive, bearable-at, bearable-all, listed-bearable}
@@ -247,7 +247,7 @@ lane-says M (suc (suc n)) b k c dl low h high =
 
 -- the steps for which every arrival leads to a bearable queue
 
-module _ (M D : ℕ) (s : Counted) (v : Queue) where
+module _ (M D : ℕ) (s : View) (v : Queue) where
   -- of no entries they are those of a block
   pub steps-begun : suc (pred D * M - total v D) ≡ stepsTo M D s v 0
   unfolding stepsTo

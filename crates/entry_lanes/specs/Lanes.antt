@@ -7,7 +7,7 @@ use mathlib.Core.Path.{_≡_}
 use mathlib.Core.Bool.{false, cond}
 use mathlib.Core.List.{List}
 use lib.Dec.{T, leb}
-use Rattle.model.specs.Counted.{Counted, weightAt, sizeAt, deadlineAt}
+use Rattle.model.specs.View.{View, weightAt, sizeAt, deadlineAt}
 use Rattle.model.specs.Queue.{Queue, total, bearable, queueCount, numberOf, arrive}
 use Rattle.queues.specs.Blocks.{firstOf, startOf, lowestOf, risen}
 use Rattle.slot.specs.Slot.{lastTwice}
@@ -18,7 +18,7 @@ abbrev pub firstAfter : ℕ → ℕ → ℕ → Queue
 firstAfter M D b = lastTwice (firstOf M (pred D) b)
 
 -- a queue with the arrival of the entry at place j
-abbrev pub joined : Counted → Queue → ℕ → Queue
+abbrev pub joined : View → Queue → ℕ → Queue
 joined s v j = arrive v (sizeAt s j) (deadlineAt s j)
 
 -- how much an entry lifts the last total but one: by its size, where it is due before D
@@ -30,7 +30,7 @@ abbrev pub stepsOf : ℕ → ℕ → Queue → ℕ
 stepsOf M D w = cond (bearable M w) (suc (min (pred D * M - total w (pred D)) (D * M - total w D))) 0
 
 -- for how many steps from v on the queues with each of the first n arrivals do, and no more than there are in a block
-unfoldable pub stepsTo : ℕ → ℕ → Counted → Queue → ℕ → ℕ
+unfoldable pub stepsTo : ℕ → ℕ → View → Queue → ℕ → ℕ
 stepsTo M D s v zero = suc (pred D * M - total v D)
 stepsTo M D s v (suc j) = min (stepsTo M D s v j) (stepsOf M D (joined s v j))
 
@@ -39,13 +39,13 @@ abbrev pub laneOf : ℕ → Queue → ℕ
 laneOf M w = cond (bearable M w) (numberOf M w) 0
 
 -- the line of block b
-abbrev pub entryLine : ℕ → ℕ → Counted → ℕ → ℕ → ℕ
+abbrev pub entryLine : ℕ → ℕ → View → ℕ → ℕ → ℕ
 entryLine M D s b =
     lineOf (startOf M (pred D) b) (lowestOf M (pred D) b) (stepsTo M D s (firstAfter M D b) (s .jobCount))
     (λ j. laneOf M (joined s (firstAfter M D b) j))
 
 -- the table: the weights of the entries, of which a sheet has at most 32, and how much each lifts, and a line for each block
-abbrev pub EntryTable : ℕ → ℕ → Counted → List ℕ → Type 0
+abbrev pub EntryTable : ℕ → ℕ → View → List ℕ → Type 0
 EntryTable M D s l =
     Table 32 (s .jobCount) (queueCount M (pred (pred D))) (weightAt s) (λ j. liftOf D (sizeAt s j) (deadlineAt s j)) (entryLine M D s) l
 

@@ -15,7 +15,7 @@ use slot::total;
 ghost use mathlib.Core.Path.{_≡_};
 ghost use Prim.Native.Nat.{pred, min, _+_, _*_, _≤_, _<_};
 ghost use lib.ListN.{length};
-ghost use Rattle.model.specs.Counted.{counted, weightAt, sizeAt, deadlineAt};
+ghost use Rattle.model.specs.View.{viewOf, weightAt, sizeAt, deadlineAt};
 ghost use Rattle.model.specs.Queue.{total, queueIn, placesOf};
 ghost use Rattle.model.specs.Refusal.{fieldsRefusal};
 ghost use Rattle.counts.specs.Counts.{HoldsCounts};
@@ -61,9 +61,9 @@ fn steps_of(sizes: Sizes, queue: [u32; 6]) -> u32
 
 // For how many steps from a queue after a slot on every arrival leads to a bearable queue.
 fn steps(sheet: Sheet, sizes: Sizes, queue: [u32; 6]) -> u32
-    requires { ⌜ Measured sizes × (fieldsRefusal (counted sheet) ≡ 0) × Small (queueIn (sizes .bound) queue) ×
+    requires { ⌜ Measured sizes × (fieldsRefusal (viewOf sheet) ≡ 0) × Small (queueIn (sizes .bound) queue) ×
         (total (queueIn (sizes .bound) queue) (sizes .bound) ≤ pred (sizes .bound) * sizes .largest) ⌝ }
-    ensures { λ r. ⌜ r ≡ stepsTo (sizes .largest) (sizes .bound) (counted sheet) (queueIn (sizes .bound) queue) (sheet .«job_count») ⌝ }
+    ensures { λ r. ⌜ r ≡ stepsTo (sizes .largest) (sizes .bound) (viewOf sheet) (queueIn (sizes .bound) queue) (sheet .«job_count») ⌝ }
 {
     let most = sizes.bound as u32 * sizes.largest - sizes.largest;
     let mut least = most - total(queue, sizes.bound) + 1;
@@ -97,9 +97,9 @@ fn put_lanes(
     at: usize,
     lanes: &mut [u32],
 )
-    requires { ⌜ HoldsCounts (now counts) × Measured sizes × (fieldsRefusal (counted sheet) ≡ 0) × Small (queueIn (sizes .bound) queue) ×
+    requires { ⌜ HoldsCounts (now counts) × Measured sizes × (fieldsRefusal (viewOf sheet) ≡ 0) × Small (queueIn (sizes .bound) queue) ×
         (at + sheet .«job_count» ≤ length (now lanes)) ⌝ }
-    ensures { λ r. ⌜ Fills 1 numberAt (λ j. laneOf (sizes .largest) (joined (counted sheet) (queueIn (sizes .bound) queue) j))
+    ensures { λ r. ⌜ Fills 1 numberAt (λ j. laneOf (sizes .largest) (joined (viewOf sheet) (queueIn (sizes .bound) queue) j))
         at (sheet .«job_count») (now (lanes .entry)) (now (lanes .exit)) ⌝ }
 {
     let mut place = 0;
@@ -124,9 +124,9 @@ fn first_after(counts: &[u32; 2352], sizes: Sizes, block: usize) -> [u32; 6]
 
 // The line of one block.
 fn put_line(counts: &[u32; 2352], sheet: Sheet, sizes: Sizes, block: usize, lanes: &mut [u32])
-    requires { ⌜ HoldsCounts (now counts) × Measured sizes × (fieldsRefusal (counted sheet) ≡ 0) × (block < sizes .blocks) ×
+    requires { ⌜ HoldsCounts (now counts) × Measured sizes × (fieldsRefusal (viewOf sheet) ≡ 0) × (block < sizes .blocks) ×
         (lineAt 32 (sheet .«job_count») (sizes .blocks) ≤ length (now lanes)) ⌝ }
-    ensures { λ r. ⌜ Fills 1 numberAt (entryLine (sizes .largest) (sizes .bound) (counted sheet) block)
+    ensures { λ r. ⌜ Fills 1 numberAt (entryLine (sizes .largest) (sizes .bound) (viewOf sheet) block)
         (lineAt 32 (sheet .«job_count») block) (sheet .«job_count» + 3) (now (lanes .entry)) (now (lanes .exit)) ⌝ }
 {
     let queue = first_after(counts, sizes, block);
@@ -144,9 +144,9 @@ fn put_line(counts: &[u32; 2352], sheet: Sheet, sizes: Sizes, block: usize, lane
 
 // The lines of all blocks.
 fn fill_lines(counts: &[u32; 2352], sheet: Sheet, sizes: Sizes, lanes: &mut [u32])
-    requires { ⌜ HoldsCounts (now counts) × Measured sizes × (fieldsRefusal (counted sheet) ≡ 0) ×
+    requires { ⌜ HoldsCounts (now counts) × Measured sizes × (fieldsRefusal (viewOf sheet) ≡ 0) ×
         (lineAt 32 (sheet .«job_count») (sizes .blocks) ≤ length (now lanes)) ⌝ }
-    ensures { λ r. ⌜ LinesPut 32 (sheet .«job_count») (sizes .blocks) (entryLine (sizes .largest) (sizes .bound) (counted sheet))
+    ensures { λ r. ⌜ LinesPut 32 (sheet .«job_count») (sizes .blocks) (entryLine (sizes .largest) (sizes .bound) (viewOf sheet))
         (now (lanes .entry)) (now (lanes .exit)) ⌝ }
 {
     let mut block = 0;
@@ -158,9 +158,9 @@ fn fill_lines(counts: &[u32; 2352], sheet: Sheet, sizes: Sizes, lanes: &mut [u32
 
 // The weights of the entries, and how much each lifts.
 fn fill_entries(sheet: Sheet, bound: usize, lanes: &mut [u32])
-    requires { ⌜ (fieldsRefusal (counted sheet) ≡ 0) × (64 ≤ length (now lanes)) × (1 ≤ bound) ⌝ }
-    ensures { λ r. ⌜ Columns 32 (sheet .«job_count») (weightAt (counted sheet))
-        (λ j. liftOf bound (sizeAt (counted sheet) j) (deadlineAt (counted sheet) j)) (now (lanes .exit)) ⌝ }
+    requires { ⌜ (fieldsRefusal (viewOf sheet) ≡ 0) × (64 ≤ length (now lanes)) × (1 ≤ bound) ⌝ }
+    ensures { λ r. ⌜ Columns 32 (sheet .«job_count») (weightAt (viewOf sheet))
+        (λ j. liftOf bound (sizeAt (viewOf sheet) j) (deadlineAt (viewOf sheet) j)) (now (lanes .exit)) ⌝ }
 {
     let mut place = 0;
     while place < sheet.job_count {
@@ -172,9 +172,9 @@ fn fill_entries(sheet: Sheet, bound: usize, lanes: &mut [u32])
 
 // The whole table.
 pub fn fill_table(counts: &[u32; 2352], sheet: Sheet, sizes: Sizes, lanes: &mut [u32])
-    requires { ⌜ HoldsCounts (now counts) × Measured sizes × (fieldsRefusal (counted sheet) ≡ 0) ×
+    requires { ⌜ HoldsCounts (now counts) × Measured sizes × (fieldsRefusal (viewOf sheet) ≡ 0) ×
         (lineAt 32 (sheet .«job_count») (sizes .blocks) ≤ length (now lanes)) ⌝ }
-    ensures { λ r. ⌜ EntryTable (sizes .largest) (sizes .bound) (counted sheet) (now (lanes .exit)) ⌝ }
+    ensures { λ r. ⌜ EntryTable (sizes .largest) (sizes .bound) (viewOf sheet) (now (lanes .exit)) ⌝ }
 {
     fill_entries(sheet, sizes.bound, lanes);
     fill_lines(counts, sheet, sizes, lanes);

@@ -17,6 +17,6 @@ refusalNumber (value a next) = 0
 refusalNumber (refused number) = number
 
 -- a number of at most n bytes is below 128^n, so that no sum of groups wraps
-abbrev pub Below : ℕ → Answer ℕ → Type 0
-Below n (value x next) = x < 128 ^ n
-Below n (refused number) = Unit {0}
+abbrev pub Short : ℕ → Answer ℕ → Type 0
+Short n (value x next) = x < 128 ^ n
+Short n (refused number) = Unit {0}

@@ -2,7 +2,7 @@
 // the shortest form only.
 ghost use mathlib.Core.Path.{_≡_};
 ghost use Prim.Native.Nat.{_≤_, _<_};
-ghost use Rattle.fields.specs.Answers.{fieldAnswer, refusalNumber, Below};
+ghost use Rattle.fields.specs.Answers.{fieldAnswer, refusalNumber, Short};
 ghost use Rattle.model.specs.Reading.{numberIn, field};
 
 // A value with its next place, or a refusal's number: 1 or 2.
@@ -32,7 +32,7 @@ fn wide(byte: u8) -> u32
 // `field_at`'s to say.
 fn number_in(most: u32, bytes: &[u8], at: usize) -> Field
     requires { ⌜ most ≤ 4 ⌝ }
-    ensures { λ r. ⌜ (fieldAnswer r ≡ numberIn most (now (bytes .entry)) at) × Below most (fieldAnswer r) ⌝ }
+    ensures { λ r. ⌜ (fieldAnswer r ≡ numberIn most (now (bytes .entry)) at) × Short most (fieldAnswer r) ⌝ }
 {
     if most == 0 {
         return Field::Refused(2);

@@ -12,7 +12,7 @@ use lib.Dec.{T, leb→le, le→leb}
 use lib.ListN.{length}
 use Rattle.process.specs.Sums.{Events}
 use Rattle.process.specs.Ways.{Way, later, Along, Good, IsLeast}
-use Rattle.model.specs.Counted.{Counted, weightAt, M}
+use Rattle.model.specs.View.{View, weightAt, M}
 use Rattle.model.specs.Plan.{nextQueue, processOf, IsValueAt, IsPlanByte}
 use Rattle.model.specs.Queue.{Queue, total, NeverFalls, bearable, run, oneSlot}
 use Rattle.laws.proofs.Longer.{no-longer-by, run-never-falls, arrive-never-falls, bearable-carries}
@@ -30,7 +30,7 @@ use Rattle.jobs.proofs.Given.{misses-none-done}
 use Rattle.jobs.proofs.Finishable.{bearable-finishable, own-never-falls}
 
 -- a sheet that keeps every range
-module _ (s : Counted) (ranged : Ranged s) where
+module _ (s : View) (ranged : Ranged s) where
   abbrev D : ℕ
   D = s .bound
 
@@ -148,7 +148,7 @@ module _ (s : Counted) (ranged : Ranged s) where
     }
 
 -- along a list of entries a way that is in time misses no deadline, as runs say it: its speeds, and the services of the order beside it
-pub in-time-misses-none : (s : Counted) (p : Pool) (σ : Way) (o : Order) (l : List ℕ) → InTimeAlong s p σ o l →
+pub in-time-misses-none : (s : View) (p : Pool) (σ : Way) (o : Order) (l : List ℕ) → InTimeAlong s p σ o l →
     MissesNone p (slotsOf s σ l) (servicesOf o l)
 unfolding slotsOf servicesOf
 in-time-misses-none s p σ o [] a = a .0
@@ -156,6 +156,6 @@ in-time-misses-none s p σ o (i ∷ l) a =
     (a .0, a .3, in-time-misses-none s (nextPool p (o []) (slotOf s (σ []) i)) (later σ i) (laterOrder o i) l (a .4))
 
 -- so every job, whether it waits at the start or comes, is given all its work by its deadline
-pub in-time-done : (s : Counted) (p : Pool) (σ : Way) (o : Order) (l : List ℕ) → InTimeAlong s p σ o l →
+pub in-time-done : (s : View) (p : Pool) (σ : Way) (o : Order) (l : List ℕ) → InTimeAlong s p σ o l →
     EachJob ByDeadline p (slotsOf s σ l) (servicesOf o l)
 in-time-done s p σ o l a = misses-none-done p (slotsOf s σ l) (servicesOf o l) .0 (in-time-misses-none s p σ o l a) .1

@@ -6,18 +6,18 @@ use mathlib.Core.List.{List, [], _∷_}
 use mathlib.Core.Option.{Option, none, some}
 use Rattle.process.specs.Sums.{Events}
 use Rattle.process.specs.Ways.{Way, later, Among, energy, IsLeastOf}
-use Rattle.model.specs.Counted.{Counted, sizeAt, deadlineAt, weightAt, speedsOf, M}
+use Rattle.model.specs.View.{View, sizeAt, deadlineAt, weightAt, speedsOf, M}
 use Rattle.model.specs.Plan.{processOf, noSpeed}
 use Rattle.jobs.specs.Pool.{Pool, queueOfPool, NoneLate}
 use Rattle.jobs.specs.Runs.{Slot, nextPool, Finishable}
 use Rattle.jobs.specs.Service.{Service, Serves, earliest}
 
 -- a slot at a speed, and then the arrival of the entry at place i of the sheet
-abbrev pub slotOf : Counted → ℕ → ℕ → Slot
+abbrev pub slotOf : View → ℕ → ℕ → Slot
 slotOf s speed i = record { speed = speed; size = sizeAt s i; deadline = deadlineAt s i }
 
 -- the slots of a way along a list of entries
-unfoldable pub slotsOf : Counted → Way → List ℕ → List Slot
+unfoldable pub slotsOf : View → Way → List ℕ → List Slot
 slotsOf s σ [] = []
 slotsOf s σ (i ∷ l) = slotOf s (σ []) i ∷ slotsOf s (later σ i) l
 
@@ -36,46 +36,46 @@ servicesOf o (i ∷ l) = o [] ∷ servicesOf (laterOrder o i) l
 
 -- along the list of entries, from the pool p: each speed is on the sheet and the order takes no more than that; and in every pool reached,
 -- the one after the last slot too, no job is late, and the jobs that wait can be finished
-abbrev pub InTimeAlong : Counted → Pool → Way → Order → List ℕ → Type 0
+abbrev pub InTimeAlong : View → Pool → Way → Order → List ℕ → Type 0
 InTimeAlong s p σ o [] = NoneLate p × Finishable (M s) (s .bound) p
 InTimeAlong s p σ o (i ∷ l) =
     NoneLate p × Finishable (M s) (s .bound) p × Among (speedsOf s) (σ []) × Serves (σ []) p (o []) ×
     InTimeAlong s (nextPool p (o []) (slotOf s (σ []) i)) (later σ i) (laterOrder o i) l
 
 -- a way that, with some order of service beside it, along every list of k entries misses no job's deadline and keeps every pool finishable
-abbrev pub InTime : Counted → ℕ → Pool → Way → Type 0
+abbrev pub InTime : View → ℕ → Pool → Way → Type 0
 InTime s k p σ = (o : Order) × ((l : List ℕ) → Events (s .jobCount) k l → InTimeAlong s p σ o l)
 
 -- earliest deadline first, as an order of service beside a way
-unfoldable pub earliestOrder : Counted → Pool → Way → Order
+unfoldable pub earliestOrder : View → Pool → Way → Order
 earliestOrder s p σ [] = earliest (σ []) p
 earliestOrder s p σ (i ∷ seen) = earliestOrder s (nextPool p (earliest (σ []) p) (slotOf s (σ []) i)) (later σ i) seen
 
 -- Demand 2, said of jobs: the ways are those that are in time
 
 -- the scaled energy of a way over the slots from t on, from the jobs that wait
-abbrev pub energyFrom : Counted → ℕ → Pool → Way → ℕ
+abbrev pub energyFrom : View → ℕ → Pool → Way → ℕ
 energyFrom s t p σ = energy (processOf s) (s .jobCount) (weightAt s) (s .horizon - t) (queueOfPool (s .bound) p) σ
 
 -- the value of slot t and of these jobs: the least scaled energy over all ways that are in time, or none where no way is
-abbrev pub IsValueOfPool : Counted → ℕ → Pool → Option ℕ → Type 0
+abbrev pub IsValueOfPool : View → ℕ → Pool → Option ℕ → Type 0
 IsValueOfPool s t p none = (σ : Way) → InTime s (s .horizon - t) p σ → ⊥
 IsValueOfPool s t p (some v) =
     IsLeastOf (processOf s) (s .jobCount) (weightAt s) (s .horizon - t) (queueOfPool (s .bound) p) (InTime s (s .horizon - t) p) v
 
 -- a way that is in time, at no more energy than any other that is
-pub record IsLeastInTime (s : Counted) (t : ℕ) (p : Pool) (σ : Way) : Type 0 where
+pub record IsLeastInTime (s : View) (t : ℕ) (p : Pool) (σ : Way) : Type 0 where
   pub in-time : InTime s (s .horizon - t) p σ
   pub least : (τ : Way) → InTime s (s .horizon - t) p τ → energyFrom s t p σ ≤ energyFrom s t p τ
 
 -- the slowest speed that begins such a way
-pub record IsFirstOfPool (s : Counted) (t : ℕ) (p : Pool) (speed : ℕ) : Type 0 where
+pub record IsFirstOfPool (s : View) (t : ℕ) (p : Pool) (speed : ℕ) : Type 0 where
   pub way : Way
   pub least : IsLeastInTime s t p way
   pub begins : way [] ≡ speed
   pub slowest : (σ : Way) → IsLeastInTime s t p σ → speed ≤ σ []
 
 -- the plan byte of slot t and of these jobs, whose value is r; 255 where there is none
-abbrev pub IsByteOfPool : Counted → ℕ → Pool → Option ℕ → ℕ → Type 0
+abbrev pub IsByteOfPool : View → ℕ → Pool → Option ℕ → ℕ → Type 0
 IsByteOfPool s t p none byte = byte ≡ noSpeed
 IsByteOfPool s t p (some v) byte = IsFirstOfPool s t p byte

@@ -9,7 +9,7 @@ use native.Mathlib.Omega.{arith}
 use borrow.Author.Tests.{lt-ltb, le-ltb, ltb-true, ltb-false, lt-leb, le-leb}
 use lib.Dec.{leb, ltb}
 use lib.ListN.{length, getD}
-use Rattle.model.specs.Counted.{Counted}
+use Rattle.model.specs.View.{View}
 use Rattle.model.specs.Listing.{digit, said, digitsIn, decimal, listing, listRefusal, listLines, list}
 use Rattle.model.specs.Plan.{planNeeded, rowRefusal, rowLines}
 use Rattle.model.specs.Refusal.{sheetRefusal, valueLimit}
@@ -81,7 +81,7 @@ decimal-first x some h = digits-first 20 x some h
 -- The number of a listing. The row call's tests come first, so that a caller may make those and then look at its buffer
 
 -- its number is that of its tests
-pub list-number : (s : Counted) (least : ℕ) (plan buffer : List ℕ) →
+pub list-number : (s : View) (least : ℕ) (plan buffer : List ℕ) →
     list s least plan buffer .number ≡ listRefusal s least plan (length buffer)
 unfolding list
 list-number s least plan buffer = written-number (listRefusal s least plan (length buffer)) (listing s least plan) buffer
@@ -99,7 +99,7 @@ second-decides zero true b e = refl
 second-decides zero false b e = absurd (suc-ne-zero 10 e)
 second-decides (suc n) a b e = absurd (suc-ne-zero n e)
 
-module _ (s : Counted) (least : ℕ) (plan : List ℕ) where
+module _ (s : View) (least : ℕ) (plan : List ℕ) where
   -- the sheet is refused, or the plan too short
   pub list-refused : {number : ℕ} (room : ℕ) → number ≡ rowRefusal s (length plan) → (number ≡ 0 → ⊥) →
       listRefusal s least plan room ≡ number

@@ -9,8 +9,8 @@ use native.Mathlib.Nat.{zero-lt-suc, not-suc-le-zero, le-of-suc-le-suc, suc-ne-z
 use native.Mathlib.Omega.{arith}
 use lib.Dec.{leb, ltb, eqb}
 use lib.ListN.{length, getD}
-use Rattle.model.specs.Counted.{Counted, sheetOf, zeroSpeed, zeroJob}
-use Rattle.model.specs.Reading.{Answer, value, refused, Reader, onward, _>>=_, _>>_, done, test, refuse, joined, numberIn, field, readSpeed, readSpeeds, readSpeedTable, readJob, readJobs, readJobTable, ended, judged, readCounted}
+use Rattle.model.specs.View.{View, viewWith, zeroSpeed, zeroJob}
+use Rattle.model.specs.Reading.{Answer, value, refused, Reader, onward, _>>=_, _>>_, done, test, refuse, joined, numberIn, field, readSpeed, readSpeeds, readSpeedTable, readJob, readJobs, readJobTable, ended, judged, readView}
 use Rattle.model.specs.Refusal.{boundRight, speedCountRight, speedRight, energyRight, horizonRight, jobCountRight, weightRight, sizeRight, deadlineRight, refusalOfSpeed, speedsLines, refusalOfJob, jobsLines, fieldsRefusal, fieldLines, limitsRefusal, valueLimit}
 use Rattle.model.specs.Tests.{check, _then_, inOrder, inTurn}
 use Rattle.model.specs.declared.Job.{Job}
@@ -198,15 +198,15 @@ refuse-positive zero bytes at = tt
 refuse-positive (suc number) bytes at = zero-lt-suc number
 
 -- 9 and 10 never refuse with 0
-judged-positive : (queues : Counted → ℕ) (s : Counted) → NeverZero (judged queues s)
+judged-positive : (queues : View → ℕ) (s : View) → NeverZero (judged queues s)
 unfolding judged
 judged-positive queues s =
     let number = limitsRefusal valueLimit (queues s) s in
     bind-positive (refuse number) (λ u. done s) (refuse-positive number) (λ u bytes at. tt)
 
 -- reading a sheet never refuses with 0
-pub read-positive : (queues : Counted → ℕ) → NeverZero (readCounted queues)
-unfolding readCounted
+pub read-positive : (queues : View → ℕ) → NeverZero (readView queues)
+unfolding readView
 read-positive queues =
     tested-positive boundRight 3 _
     (λ D. bind-positive readSpeedTable _ speed-table-positive
@@ -397,7 +397,7 @@ job-entries D = record {
 -- the sheet that was read keeps every range
 pub fields-read : (bytes : List ℕ) (D horizon : ℕ) (speeds : List Speed) (jobs : List Job) (a b c d : ℕ) →
     boundRight D ≡ true → readSpeedTable bytes a ≡ value speeds b → horizonRight horizon ≡ true → readJobTable D bytes c ≡ value jobs d →
-    fieldsRefusal (sheetOf D speeds horizon jobs) ≡ 0
+    fieldsRefusal (viewWith D speeds horizon jobs) ≡ 0
 unfolding fieldLines speedsLines jobsLines readSpeedTable readJobTable
 fields-read bytes D horizon speeds jobs a b c d e f g h =
     let (s, m, each) = table-gave speed-entries speedCountRight 5 bytes a speeds b f in

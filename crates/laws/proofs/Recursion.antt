@@ -11,14 +11,14 @@ use Rattle.process.specs.Ways.{Among}
 use Rattle.process.proofs.Eased.{value-bounded}
 use Rattle.process.proofs.Equations.{value-end, value-step, choice-is, priced-is, best-more}
 use Rattle.process.specs.Recursion.{UptoOr}
-use Rattle.model.specs.Counted.{Counted, speedAt, weightAt, sizeAt, deadlineAt, speedsOf, energyOf, W, M, G}
+use Rattle.model.specs.View.{View, speedAt, weightAt, sizeAt, deadlineAt, speedsOf, energyOf, W, M, G}
 use Rattle.model.specs.Plan.{nextQueue, processOf}
 use Rattle.model.specs.Queue.{Queue, total, bearable, run, arrive}
 use Rattle.model.proofs.Computed.{valueFor}
-use Rattle.model.proofs.Counted.{length-speeds, at-speeds, on-sheet, energy-of-upto}
+use Rattle.model.proofs.View.{length-speeds, at-speeds, on-sheet, energy-of-upto}
 use Rattle.model.proofs.Refusal.{G-covers}
 
-module _ (s : Counted) where
+module _ (s : View) where
   -- with no slot left a queue has a value, 0, where it is bearable
   pub value-last : (w : Queue) → valueFor s 0 w ≡ only (bearable (M s) w) (some 0)
   unfolding processOf

@@ -10,7 +10,7 @@ use borrow.Author.Tests.{le-leb, lt-leb, lt-ltb, le-ltb, eq-eqb, ne-eqb}
 use lib.Dec.{leb, ltb, eqb, leb→le}
 use lib.ListN.{length, take, drop, length-drop}
 use lib.Seq.{length-take-le}
-use Rattle.model.specs.Counted.{Counted}
+use Rattle.model.specs.View.{View}
 use Rattle.model.specs.Plan.{placeAt, valuePlaces, planNeeded, planRefusal, planLines, rowRefusal, rowLines, row}
 use Rattle.model.specs.Refusal.{N, sheetRefusal, valueLimit}
 use Rattle.model.specs.Tests.{_then_}
@@ -18,7 +18,7 @@ use Rattle.model.specs.Width.{Width}
 use Rattle.model.proofs.Refusal.{accepted, N-low}
 use Rattle.model.proofs.Tests.{and-left, and-right, and-fails-right, check-zero, check-true, check-false, then-left, then-right, then-on, then-stops}
 
-module _ (s : Counted) where
+module _ (s : View) where
   -- a sheet that is refused is refused with its number, whatever is tested later
   sheet-refused : (limit later : ℕ) {number : ℕ} → number ≡ sheetRefusal limit s → (number ≡ 0 → ⊥) → number ≡ sheetRefusal limit s then later
   sheet-refused limit later {number = number} e some = sym (rw (← e) (then-stops number later some))

@@ -7,7 +7,7 @@ use mathlib.Core.List.{List}
 use borrow.Author.Tests.{le-leb, lt-leb, eq-eqb, ne-eqb}
 use lib.Dec.{T, leb, eqb, leb→le, eqb-refl}
 use lib.ListN.{length, getD}
-use Rattle.model.specs.Counted.{Counted, sizeAt, deadlineAt, onSheet, energyOf, greatestEnergy, M}
+use Rattle.model.specs.View.{View, sizeAt, deadlineAt, onSheet, energyOf, greatestEnergy, M}
 use Rattle.model.specs.Plan.{placeOfQueue, rowRefusal}
 use Rattle.model.specs.Queue.{total, placesOf, bearable, oneSlot}
 use Rattle.model.specs.Refusal.{sheetRefusal, valueLimit}
@@ -15,7 +15,7 @@ use Rattle.model.specs.Stepper.{State, queueOf, queueRight, stateRight, zeroSta
 use Rattle.model.specs.Tests.{check, _then_}
 use Rattle.model.proofs.Tests.{anywhere-one, and-both, and-left, and-right, and-fails-right, check-zero, check-true, check-false, then-left, then-right, then-on, then-passes, then-fails, then-stops}
 
-module _ (s : Counted) where
+module _ (s : View) where
   -- start
 
   -- what it answers, by its number

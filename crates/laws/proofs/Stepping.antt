@@ -15,14 +15,14 @@ use Rattle.process.specs.Recursion.{ruled}
 use Rattle.process.specs.Sums.{sum}
 use Rattle.process.specs.Ways.{Way, spent, IsLeast, IsFirst}
 use Rattle.process.proofs.Value.{first-step, plan-least, value-some-is, first-plan, SlotByRule, spent-by-rule}
-use Rattle.model.specs.Counted.{Counted, speedAt, sizeAt, deadlineAt, weightAt, onSheet, energyOf, greatestEnergy, M}
+use Rattle.model.specs.View.{View, speedAt, sizeAt, deadlineAt, weightAt, onSheet, energyOf, greatestEnergy, M}
 use Rattle.model.specs.Plan.{nextQueue, processOf, HasValue, noSpeed, byteOfQueue, rowRefusal}
 use Rattle.model.specs.Queue.{Queue, total, positions, queueIn, placesOf, bearable, unusedZero, bearableIn, oneSlot}
 use Rattle.model.specs.Refusal.{sheetRefusal, valueLimit}
 use Rattle.model.specs.Stepper.{State, queueOf, queueRight, stateRight, start, planByte, byteRight, speedRefusal, speed, isEntry, moved, energyLimit, nextRefusal, advanceRefusal, advance}
 use Rattle.model.specs.Tests.{check}
 use Rattle.model.proofs.Admissible.{good-bearable}
-use Rattle.model.proofs.Counted.{on-sheet, place-of, energy-of-upto}
+use Rattle.model.proofs.View.{on-sheet, place-of, energy-of-upto}
 use Rattle.model.proofs.Queues.{length-slot, held-bearable, length-in, length-places, in-first-places, places-hold}
 use Rattle.model.proofs.Refusal.{Ranged, accepted, speeds-rise, greatest-energy-high}
 use Rattle.laws.proofs.Rooms.{row-accepted}
@@ -30,20 +30,20 @@ use Rattle.laws.proofs.Stepper.{state-right, start-by, start-refusal-0,
 use Rattle.model.proofs.Tests.{holds-true, fails-false, and-both, check-passes, check-true, check-false, then-both}
 
 -- plan bytes that are right: at every slot before the horizon, for every bearable queue that has a value, the byte begins a least way
-abbrev pub RightPlan : Counted → List ℕ → Type 0
+abbrev pub RightPlan : View → List ℕ → Type 0
 RightPlan s plan =
     (t : ℕ) → t < s .horizon → (w : Queue) → length w ≡ s .bound → T (bearable (M s) w) → HasValue s t w →
     IsFirst (processOf s) (s .jobCount) (weightAt s) (s .horizon - t) w (byteOfQueue s plan t w)
 
 -- a state at slot t from which stepping goes on
-pub record Going (s : Counted) (t : ℕ) (x : State) : Type 0 where
+pub record Going (s : View) (t : ℕ) (x : State) : Type 0 where
   pub six : length (x .queue) ≡ positions
   pub right : T (queueRight s x)
   pub at-slot : x .slot ≡ t
   pub energy-upto : x .energy ≤ t * greatestEnergy s
   pub has-value : HasValue s t (queueOf s x)
 
-module _ (s : Counted) where
+module _ (s : View) where
   -- of a right state of an accepted sheet, the energy and one slot's more of any sheet speed stay below 2^32, so that 18 cannot be met
   pub energy-small : sheetRefusal valueLimit s ≡ 0 → (x : State) → T (stateRight s x) → (a : ℕ) → T (onSheet s a) →
       x .energy + energyOf s a ≤ energyLimit

@@ -7,7 +7,7 @@ use native.Mathlib.Nat.{suc-mul, mul-le-mul-right}
 use native.Mathlib.Omega.{arith}
 use lib.ListN.{length, getD}
 use Rattle.model.proofs.Refusal.{accepted}
-use Rattle.model.specs.Counted.{Counted}
+use Rattle.model.specs.View.{View}
 use Rattle.model.specs.Plan.{placeAt, byteAt, rowRefusal}
 use Rattle.model.specs.Refusal.{N}
 use Rattle.laws.proofs.Rooms.{row-accepted}
@@ -15,7 +15,7 @@ use Rattle.sheets.specs.Sizes.{Sized}
 use Rattle.sheets.specs.declared.sizes.Sizes.{Sizes}
 use Rattle.layout.specs.Places.{placeIn, byteIn, HasRow}
 
-module _ (s : Counted) {sizes : Sizes} (sized : Sized s sizes) where
+module _ (s : View) {sizes : Sizes} (sized : Sized s sizes) where
   -- the place that the code works out is the model's
   pub place-is : (t i : ℕ) → placeIn (sizes .queues) t i ≡ placeAt s t i
   place-is t i = ap (λ (n : ℕ). t * n + i) (sized .queues-is)

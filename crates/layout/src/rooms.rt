@@ -4,7 +4,7 @@ use model::Sheet;
 use sheets::sheet_refusal;
 ghost use mathlib.Core.Path.{_≡_};
 ghost use Prim.Native.Nat.{_≤_};
-ghost use Rattle.model.specs.Counted.{counted};
+ghost use Rattle.model.specs.View.{viewOf};
 ghost use Rattle.model.specs.Plan.{rowRefusal};
 ghost use Rattle.counts.specs.Counts.{HoldsCounts};
 ghost use Rattle.layout.specs.Places.{placeIn};
@@ -20,7 +20,7 @@ pub fn place(queues: usize, slot: u32, queue: usize) -> usize
 // 4 to 10, then 11 where the lent plan is too short for T rows.
 pub fn row_refusal(counts: &[u32; 2352], sheet: Sheet, room: usize) -> u32
     requires { ⌜ HoldsCounts (now counts) ⌝ }
-    ensures { λ r. ⌜ r ≡ rowRefusal (counted sheet) room ⌝ }
+    ensures { λ r. ⌜ r ≡ rowRefusal (viewOf sheet) room ⌝ }
 {
     let number = sheet_refusal(counts, sheet);
     if number != 0 {

@@ -1,4 +1,4 @@
--- The places of a sheet in memory and the places that count (`counted`): below the counts they hold the same. And what a loop over the
+-- The places of a sheet in memory and the places that count (`viewOf`): below the counts they hold the same. And what a loop over the
 -- places knows of a greatest number.
 use Prim.Native.Nat.{ℕ, max, _+_, _≤_, _<_}
 use mathlib.Core.Path.{_≡_, ap, _∙_}
@@ -6,16 +6,16 @@ use native.Mathlib.Numerals.{add-one}
 use native.Mathlib.Omega.{arith}
 use lib.ListN.{getD}
 use lib.Seq.{getD-take}
-use Rattle.model.specs.Counted.{counted, zeroSpeed, zeroJob}
+use Rattle.model.specs.View.{viewOf, zeroSpeed, zeroJob}
 use Rattle.model.specs.Tests.{greatest}
 use Rattle.model.specs.declared.Sheet.{Sheet}
 
 -- the speed at a place below the count
-pub speed-counts : (s : Sheet) (j : ℕ) → j < s .«speed_count» → getD (counted s .speeds) j zeroSpeed ≡ getD (s .speeds) j zeroSpeed
+pub speed-counts : (s : Sheet) (j : ℕ) → j < s .«speed_count» → getD (viewOf s .speeds) j zeroSpeed ≡ getD (s .speeds) j zeroSpeed
 speed-counts s j h = getD-take (s .«speed_count») (s .speeds) j zeroSpeed h
 
 -- the job at a place below the count
-pub job-counts : (s : Sheet) (i : ℕ) → i < s .«job_count» → getD (counted s .jobs) i zeroJob ≡ getD (s .jobs) i zeroJob
+pub job-counts : (s : Sheet) (i : ℕ) → i < s .«job_count» → getD (viewOf s .jobs) i zeroJob ≡ getD (s .jobs) i zeroJob
 job-counts s i h = getD-take (s .«job_count») (s .jobs) i zeroJob h
 
 -- one place more

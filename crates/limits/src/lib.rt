@@ -7,7 +7,7 @@ use queues::queue_count;
 ghost use mathlib.Core.Path.{_≡_};
 ghost use Prim.Native.Nat.{_*_, _^_, _≤_, max};
 ghost use lib.Dec.{leb};
-ghost use Rattle.model.specs.Counted.{counted, W, M, greatestEnergy, G};
+ghost use Rattle.model.specs.View.{viewOf, W, M, greatestEnergy, G};
 ghost use Rattle.model.specs.Refusal.{fieldsRefusal, limitsRefusal, N, valueLimit};
 ghost use Rattle.counts.specs.Counts.{HoldsCounts};
 
@@ -32,8 +32,8 @@ pub struct Greatest {
 
 // Both, over all the speeds; the energy is 0 where all are 0.
 pub fn greatest_of(sheet: Sheet) -> Greatest
-    requires { ⌜ fieldsRefusal (counted sheet) ≡ 0 ⌝ }
-    ensures { λ r. ⌜ (r .speed ≡ M (counted sheet)) × (r .energy ≡ greatestEnergy (counted sheet)) ⌝ }
+    requires { ⌜ fieldsRefusal (viewOf sheet) ≡ 0 ⌝ }
+    ensures { λ r. ⌜ (r .speed ≡ M (viewOf sheet)) × (r .energy ≡ greatestEnergy (viewOf sheet)) ⌝ }
 {
     let mut speed = 0;
     let mut energy = 0;
@@ -49,8 +49,8 @@ pub fn greatest_of(sheet: Sheet) -> Greatest
 
 // G, the greatest energy, or 1 if that is 0.
 fn greatest_or_one(sheet: Sheet) -> u32
-    requires { ⌜ fieldsRefusal (counted sheet) ≡ 0 ⌝ }
-    ensures { λ r. ⌜ r ≡ G (counted sheet) ⌝ }
+    requires { ⌜ fieldsRefusal (viewOf sheet) ≡ 0 ⌝ }
+    ensures { λ r. ⌜ r ≡ G (viewOf sheet) ⌝ }
 {
     let greatest = greatest_of(sheet);
     let energy = greatest.energy;
@@ -62,8 +62,8 @@ fn greatest_or_one(sheet: Sheet) -> u32
 
 // W, the sum of the weights.
 pub fn weights(sheet: Sheet) -> u32
-    requires { ⌜ fieldsRefusal (counted sheet) ≡ 0 ⌝ }
-    ensures { λ r. ⌜ r ≡ W (counted sheet) ⌝ }
+    requires { ⌜ fieldsRefusal (viewOf sheet) ≡ 0 ⌝ }
+    ensures { λ r. ⌜ r ≡ W (viewOf sheet) ⌝ }
 {
     let mut all = 0;
     let mut place = 0;
@@ -99,8 +99,8 @@ fn product_fits(first: u64, by: u64, times: u32, limit: u64) -> bool
 
 // Whether the factor times G times W to the power T stays within the limit, decided exactly.
 fn value_fits(factor: u32, limit: u64, sheet: Sheet) -> bool
-    requires { ⌜ fieldsRefusal (counted sheet) ≡ 0 ⌝ }
-    ensures { λ r. ⌜ r ≡ leb (factor * G (counted sheet) * W (counted sheet) ^ sheet .horizon) limit ⌝ }
+    requires { ⌜ fieldsRefusal (viewOf sheet) ≡ 0 ⌝ }
+    ensures { λ r. ⌜ r ≡ leb (factor * G (viewOf sheet) * W (viewOf sheet) ^ sheet .horizon) limit ⌝ }
 {
     let greatest = greatest_or_one(sheet);
     let weight_sum = weights(sheet);
@@ -114,8 +114,8 @@ fn value_fits(factor: u32, limit: u64, sheet: Sheet) -> bool
 
 // N, the number of bearable queues.
 pub fn queues_of(counts: &[u32; 2352], sheet: Sheet) -> usize
-    requires { ⌜ HoldsCounts (now counts) × (fieldsRefusal (counted sheet) ≡ 0) ⌝ }
-    ensures { λ r. ⌜ r ≡ N (counted sheet) ⌝ }
+    requires { ⌜ HoldsCounts (now counts) × (fieldsRefusal (viewOf sheet) ≡ 0) ⌝ }
+    ensures { λ r. ⌜ r ≡ N (viewOf sheet) ⌝ }
 {
     let greatest = greatest_of(sheet);
     queue_count(counts, greatest.speed, sheet.bound as usize)
@@ -123,8 +123,8 @@ pub fn queues_of(counts: &[u32; 2352], sheet: Sheet) -> usize
 
 // 9 and 10.
 pub fn limits_refusal(counts: &[u32; 2352], sheet: Sheet) -> u32
-    requires { ⌜ HoldsCounts (now counts) × (fieldsRefusal (counted sheet) ≡ 0) ⌝ }
-    ensures { λ r. ⌜ r ≡ limitsRefusal valueLimit (N (counted sheet)) (counted sheet) ⌝ }
+    requires { ⌜ HoldsCounts (now counts) × (fieldsRefusal (viewOf sheet) ≡ 0) ⌝ }
+    ensures { λ r. ⌜ r ≡ limitsRefusal valueLimit (N (viewOf sheet)) (viewOf sheet) ⌝ }
 {
     if !value_fits(sheet.horizon, VALUE_LIMIT, sheet) {
         return 9;

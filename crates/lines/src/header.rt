@@ -1,13 +1,13 @@
 // The header of a listing: N, W to the power T, and the empty queue's value at slot 0.
+use buffers::lay;
 use decimals::decimal_length;
 use decimals::put_decimal;
-use decimals::put_text;
 use limits::weights;
 use model::Sheet;
 ghost use mathlib.Core.Path.{_≡_};
 ghost use Prim.Native.Nat.{_+_, _≤_};
 ghost use lib.ListN.{length};
-ghost use Rattle.model.specs.Counted.{counted};
+ghost use Rattle.model.specs.View.{viewOf};
 ghost use Rattle.model.specs.Listing.{scaleOf, header};
 ghost use Rattle.model.specs.Refusal.{sheetRefusal, valueLimit};
 ghost use Rattle.buffers.specs.Laid.{Laid};
@@ -21,8 +21,8 @@ pub struct Header {
 
 // W to the power T.
 pub fn scale_of(sheet: Sheet) -> u64
-    requires { ⌜ sheetRefusal valueLimit (counted sheet) ≡ 0 ⌝ }
-    ensures { λ r. ⌜ r ≡ scaleOf (counted sheet) ⌝ }
+    requires { ⌜ sheetRefusal valueLimit (viewOf sheet) ≡ 0 ⌝ }
+    ensures { λ r. ⌜ r ≡ scaleOf (viewOf sheet) ⌝ }
 {
     let weight_sum = weights(sheet) as u64;
     let mut scale = 1;
@@ -49,11 +49,11 @@ pub fn put_header(buffer: &mut [u8], head: Header) -> usize
     requires { ⌜ length (header (head .queues) (head .scale) (head .least)) ≤ length (now buffer) ⌝ }
     ensures { λ r. ⌜ Laid 0 (header (head .queues) (head .scale) (head .least)) (now (buffer .entry)) (now (buffer .exit)) r ⌝ }
 {
-    let at_queues = put_text(buffer, 0, b"queues ");
+    let at_queues = lay(buffer, 0, b"queues ");
     let after_queues = put_decimal(buffer, at_queues, head.queues as u64);
-    let at_scale = put_text(buffer, after_queues, b" scale ");
+    let at_scale = lay(buffer, after_queues, b" scale ");
     let after_scale = put_decimal(buffer, at_scale, head.scale);
-    let at_least = put_text(buffer, after_scale, b" least ");
+    let at_least = lay(buffer, after_scale, b" least ");
     let at_end = put_decimal(buffer, at_least, head.least);
-    put_text(buffer, at_end, b"\n")
+    lay(buffer, at_end, b"\n")
 }

@@ -1,7 +1,7 @@
 // The lines of a listing: for each slot its number, a colon, and the plan byte of each queue in order.
+use buffers::lay;
 use decimals::decimal_length;
 use decimals::put_decimal;
-use decimals::put_text;
 use layout::byte_at;
 ghost use mathlib.Core.Path.{_≡_};
 ghost use Prim.Native.Nat.{_+_, _*_, _≤_};
@@ -88,9 +88,9 @@ fn put_line(buffer: &mut [u8], at: usize, plan: &[u8], queues: usize, slot: u32)
     ensures { λ r. ⌜ Laid at (lineAt (now (plan .entry)) queues slot) (now (buffer .entry)) (now (buffer .exit)) r ⌝ }
 {
     let at_colon = put_decimal(buffer, at, slot as u64);
-    let at_bytes = put_text(buffer, at_colon, b":");
+    let at_bytes = lay(buffer, at_colon, b":");
     let at_end = put_bytes(buffer, at_bytes, plan, queues, slot);
-    put_text(buffer, at_end, b"\n")
+    lay(buffer, at_end, b"\n")
 }
 
 // Puts the lines of the first so many slots.

@@ -6,7 +6,7 @@ use borrow.Author.Tests.{eqb-false}
 use lib.ListN.{length}
 use Rattle.laws.proofs.Listing.{list-refused, list-short, list-fits}
 use Rattle.laws.proofs.Written.{written-refused}
-use Rattle.model.specs.Counted.{Counted}
+use Rattle.model.specs.View.{View}
 use Rattle.model.specs.Listing.{scaleOf, listing, listRefusal, list}
 use Rattle.model.specs.Plan.{rowRefusal}
 use Rattle.model.specs.Refusal.{N}
@@ -15,7 +15,7 @@ use Rattle.buffers.specs.Laid.{Laid}
 use Rattle.listing.specs.Calls.{IsListed}
 use Rattle.listing.specs.Whole.{wholeListing}
 
-module _ (s : Counted) (least : ℕ) (plan : List ℕ) where
+module _ (s : View) (least : ℕ) (plan : List ℕ) where
   -- a refusal touches nothing and has the length 0
   refused-with : (buffer : List ℕ) (number : ℕ) → listRefusal s least plan (length buffer) ≡ number → (number ≡ 0 → ⊥) →
       IsListed s least plan buffer number 0 buffer

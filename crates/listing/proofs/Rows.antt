@@ -6,13 +6,13 @@ use native.Mathlib.Omega.{arith}
 use lib.ListN.{length}
 use Rattle.model.proofs.Refusal.{accepted}
 use Rattle.laws.proofs.Rooms.{row-accepted}
-use Rattle.model.specs.Counted.{Counted}
+use Rattle.model.specs.View.{View}
 use Rattle.model.specs.Plan.{rowRefusal}
 use Rattle.model.specs.Refusal.{N}
 use Rattle.lines.specs.Lines.{HasRows}
 
 -- where the row call's tests refuse nothing, the plan has every row of the sheet
-pub rows-accepted : (s : Counted) {plan : List ℕ} {queues : ℕ} → rowRefusal s (length plan) ≡ 0 → queues ≡ N s →
+pub rows-accepted : (s : View) {plan : List ℕ} {queues : ℕ} → rowRefusal s (length plan) ≡ 0 → queues ≡ N s →
     HasRows plan queues (s .horizon)
 rows-accepted s {plan = plan} e queues-are =
     let row = row-accepted s (length plan) e in

@@ -10,7 +10,7 @@ use borrow.Author.Tests.{ne-eqb}
 use lib.Dec.{leb, leb→le}
 use lib.ListN.{length, length-append}
 use Rattle.model.specs.Bytes.{AreBytes, written}
-use Rattle.model.specs.Counted.{Counted}
+use Rattle.model.specs.View.{View}
 use Rattle.model.specs.Listing.{scaleOf, header, bytesListed, lineOfSlot, listing, listRefusal, listLines, list}
 use Rattle.model.specs.Plan.{planNeeded}
 use Rattle.model.specs.Refusal.{sheetRefusal, N, valueLimit}
@@ -24,7 +24,7 @@ use Rattle.lines.proofs.Heads.{header-length}
 use Rattle.lines.proofs.Rows.{line-length}
 
 -- what is not refused fits
-pub listing-fits : (s : Counted) (least : ℕ) (plan : List ℕ) (room : ℕ) → listRefusal s least plan room ≡ 0 → length (listing s least plan) ≤ room
+pub listing-fits : (s : View) (least : ℕ) (plan : List ℕ) (room : ℕ) → listRefusal s least plan room ≡ 0 → length (listing s least plan) ≤ room
 unfolding listLines
 listing-fits s least plan room e =
     let enough = leb (planNeeded s) (length plan) in
@@ -37,7 +37,7 @@ within : (n : ℕ) (bytes buffer : List ℕ) → (n ≡ 0 → length bytes ≤ l
 within zero bytes buffer room = room refl
 within (suc n) bytes buffer room = rw (ne-eqb (suc n) 0 (suc-ne-zero n)) (omega arith)
 
-pub listed-within : (s : Counted) (least : ℕ) (plan before : List ℕ) {number reported : ℕ} {after : List ℕ} →
+pub listed-within : (s : View) (least : ℕ) (plan before : List ℕ) {number reported : ℕ} {after : List ℕ} →
     IsListed s least plan before number reported after → reported ≤ length before
 unfolding list
 listed-within s least plan before call =
@@ -62,7 +62,7 @@ line-upto plan queues slot are h =
     )
 
 -- the header: of its numbers the first has at most 5 digits, the second 19, the third 20
-header-upto : (s : Counted) (least : ℕ) → sheetRefusal valueLimit s ≡ 0 → least < 2 ^ 64 → length (header (N s) (scaleOf s) least) ≤ 66
+header-upto : (s : View) (least : ℕ) → sheetRefusal valueLimit s ≡ 0 → least < 2 ^ 64 → length (header (N s) (scaleOf s) least) ≤ 66
 header-upto s least e h =
     let queues = digits-upto 20 5 (N s) (omega arith) (omega (arith, accepted s e .queues-high)) in
     let scale = digits-upto 20 19 (scaleOf s) (omega arith) (omega (arith, power-fits s (accepted s e) (s .horizon) (omega arith))) in
@@ -70,7 +70,7 @@ header-upto s least e h =
     omega (arith, header-length (N s) (scaleOf s) least refl refl refl, queues, scale, energy)
 
 -- how long a listing is at most: 66 bytes for the header; for each slot four for each queue, and five
-pub listing-upto : (s : Counted) (least : ℕ) (plan : List ℕ) → sheetRefusal valueLimit s ≡ 0 → least < 2 ^ 64 → AreBytes plan →
+pub listing-upto : (s : View) (least : ℕ) (plan : List ℕ) → sheetRefusal valueLimit s ≡ 0 → least < 2 ^ 64 → AreBytes plan →
     length (listing s least plan) ≤ 66 + s .horizon * (5 + 4 * N s)
 unfolding listing
 listing-upto s least plan e h are =

@@ -3,9 +3,9 @@
 use Prim.Native.Nat.{ℕ}
 use mathlib.Core.List.{List}
 use Rattle.model.specs.Bytes.{Wrote}
-use Rattle.model.specs.Counted.{Counted}
+use Rattle.model.specs.View.{View}
 use Rattle.model.specs.Listing.{list}
 
 -- `list` of the sheet s, its least energy and its plan, lent the buffer `before`, answers these two numbers and leaves `after`
-abbrev pub IsListed : Counted → (least : ℕ) → (plan before : List ℕ) → (number length : ℕ) → (after : List ℕ) → Type 0
+abbrev pub IsListed : View → (least : ℕ) → (plan before : List ℕ) → (number length : ℕ) → (after : List ℕ) → Type 0
 IsListed s least plan before number length after = Wrote (list s least plan before) number length after

@@ -12,7 +12,7 @@ use sheets::sizes_of;
 ghost use mathlib.Core.Path.{_≡_};
 ghost use Prim.Native.Nat.{_≤_};
 ghost use lib.ListN.{length};
-ghost use Rattle.model.specs.Counted.{counted};
+ghost use Rattle.model.specs.View.{viewOf};
 ghost use Rattle.buffers.specs.Laid.{Laid};
 ghost use Rattle.listing.specs.Calls.{IsListed};
 ghost use Rattle.listing.specs.Whole.{wholeListing};
@@ -45,7 +45,7 @@ fn put_listing(buffer: &mut [u8], head: Header, plan: &[u8], slots: u32) -> usiz
 
 // Writes the listing of a sheet with its plan, the least energy being what the planner answered.
 pub fn list(sheet: Sheet, least: u64, plan: &[u8], buffer: &mut [u8]) -> Listed
-    ensures { λ r. ⌜ IsListed (counted sheet) least (now (plan .entry)) (now (buffer .entry))
+    ensures { λ r. ⌜ IsListed (viewOf sheet) least (now (plan .entry)) (now (buffer .entry))
         (r .number) (r .length) (now (buffer .exit)) ⌝ }
 {
     let counts = table();

@@ -4,14 +4,14 @@ use model::Sheet;
 ghost use mathlib.Core.Path.{_≡_};
 ghost use mathlib.Core.Bool.{_&&_};
 ghost use lib.Dec.{T, eqb};
-ghost use Rattle.model.specs.Counted.{counted, placeOfSpeed, onSheet, energyOf};
+ghost use Rattle.model.specs.View.{viewOf, placeOfSpeed, onSheet, energyOf};
 ghost use Rattle.model.specs.Refusal.{fieldsRefusal};
 ghost use Rattle.model.specs.Stepper.{isEntry};
 
 // The place of a speed on the sheet; the count of speeds where it is not there.
 pub fn place_of(sheet: Sheet, speed: u32) -> u32
-    requires { ⌜ fieldsRefusal (counted sheet) ≡ 0 ⌝ }
-    ensures { λ r. ⌜ r ≡ placeOfSpeed (counted sheet) speed ⌝ }
+    requires { ⌜ fieldsRefusal (viewOf sheet) ≡ 0 ⌝ }
+    ensures { λ r. ⌜ r ≡ placeOfSpeed (viewOf sheet) speed ⌝ }
 {
     let mut place = 0;
     while place < sheet.speed_count {
@@ -26,8 +26,8 @@ pub fn place_of(sheet: Sheet, speed: u32) -> u32
 
 // The energy per slot of a speed that is on the sheet.
 pub fn energy_of(sheet: Sheet, speed: u32) -> u32
-    requires { ⌜ (fieldsRefusal (counted sheet) ≡ 0) × T (onSheet (counted sheet) speed) ⌝ }
-    ensures { λ r. ⌜ r ≡ energyOf (counted sheet) speed ⌝ }
+    requires { ⌜ (fieldsRefusal (viewOf sheet) ≡ 0) × T (onSheet (viewOf sheet) speed) ⌝ }
+    ensures { λ r. ⌜ r ≡ energyOf (viewOf sheet) speed ⌝ }
 {
     let place = place_of(sheet, speed);
     let one = sheet.speeds[place as usize];
@@ -46,8 +46,8 @@ fn is_job(one: Job, size: u32, deadline: u32) -> bool
 
 // Whether an entry of the sheet has this size and this deadline.
 pub fn is_entry(sheet: Sheet, size: u32, deadline: u32) -> bool
-    requires { ⌜ fieldsRefusal (counted sheet) ≡ 0 ⌝ }
-    ensures { λ r. ⌜ r ≡ isEntry (counted sheet) size deadline ⌝ }
+    requires { ⌜ fieldsRefusal (viewOf sheet) ≡ 0 ⌝ }
+    ensures { λ r. ⌜ r ≡ isEntry (viewOf sheet) size deadline ⌝ }
 {
     let mut entry = 0;
     while entry < sheet.job_count {

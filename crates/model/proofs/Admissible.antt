@@ -8,15 +8,15 @@ use lib.Dec.{T, leb}
 use Rattle.process.specs.Sums.{Events}
 use Rattle.process.specs.Ways.{Way, later, Along, Good}
 use Rattle.process.proofs.Value.{good-step}
-use Rattle.model.specs.Counted.{Counted, weightAt, onSheet, M}
+use Rattle.model.specs.View.{View, weightAt, onSheet, M}
 use Rattle.model.specs.Queue.{Queue, total, bearable}
 use Rattle.model.specs.Plan.{nextQueue, processOf, admissible, AlongAdmissible}
 use Rattle.model.specs.Tests.{everywhere}
 use Rattle.model.proofs.Tests.{and-left, and-right, and-both, everywhere-at, everywhere-all}
-use Rattle.model.proofs.Counted.{on-sheet}
+use Rattle.model.proofs.View.{on-sheet}
 
 -- a speed is admissible exactly where it is on the sheet, at least w(1), and each entry leads to a bearable queue
-pub admissible-says : (s : Counted) (w : Queue) (a : ℕ) →
+pub admissible-says : (s : View) (w : Queue) (a : ℕ) →
     T (admissible s w a) ↔
     (T (onSheet s a) × T (leb (total w 1) a) × ((i : ℕ) → i < s .jobCount → T (bearable (M s) (nextQueue s w a i))))
 unfolding admissible
@@ -38,7 +38,7 @@ admissible-says s w a = (
     all = everywhere test (s .jobCount)
 
 -- along a list whose speeds are admissible, from a bearable queue, every queue is bearable and every speed is on the sheet and enough
-along-admissible : (s : Counted) (k : ℕ) (w : Queue) (σ : Way) (l : List ℕ) → Events (s .jobCount) k l → T (bearable (M s) w) →
+along-admissible : (s : View) (k : ℕ) (w : Queue) (σ : Way) (l : List ℕ) → Events (s .jobCount) k l → T (bearable (M s) w) →
     AlongAdmissible s w σ l → Along (processOf s) w σ l
 unfolding processOf
 along-admissible s zero w σ [] e b a = b
@@ -49,14 +49,14 @@ along-admissible s (suc k) w σ (i ∷ l) e b a =
     (b, on-sheet s (σ []) .0 (t .0), t .1, along-admissible s k (nextQueue s w (σ []) i) (later σ i) l (e .1) (t .2 i (e .0)) (a .1))
 
 -- the queue at which a good way begins is bearable
-pub good-bearable : (s : Counted) → 0 < s .jobCount → (k : ℕ) (w : Queue) (σ : Way) → Good (processOf s) (s .jobCount) k w σ →
+pub good-bearable : (s : View) → 0 < s .jobCount → (k : ℕ) (w : Queue) (σ : Way) → Good (processOf s) (s .jobCount) k w σ →
     T (bearable (M s) w)
 unfolding processOf
 good-bearable s h zero w σ g = g [] tt
 good-bearable s h (suc k) w σ g = good-step (processOf s) (s .jobCount) (weightAt s) h k w σ g .0
 
 -- a good way's speeds are admissible along every list
-good-along : (s : Counted) → 0 < s .jobCount → (k : ℕ) (w : Queue) (σ : Way) → Good (processOf s) (s .jobCount) k w σ →
+good-along : (s : View) → 0 < s .jobCount → (k : ℕ) (w : Queue) (σ : Way) → Good (processOf s) (s .jobCount) k w σ →
     (l : List ℕ) → Events (s .jobCount) k l → AlongAdmissible s w σ l
 unfolding processOf
 good-along s h zero w σ g [] e = tt
@@ -70,7 +70,7 @@ good-along s h (suc k) w σ g (i ∷ l) e =
     )
 
 -- a way is good exactly when the start is bearable and, along every list, each speed is admissible
-pub good-admissible : (s : Counted) → 0 < s .jobCount → (k : ℕ) (w : Queue) (σ : Way) →
+pub good-admissible : (s : View) → 0 < s .jobCount → (k : ℕ) (w : Queue) (σ : Way) →
     Good (processOf s) (s .jobCount) k w σ ↔
     (T (bearable (M s) w) × ((l : List ℕ) → Events (s .jobCount) k l → AlongAdmissible s w σ l))
 good-admissible s h k w σ =

@@ -14,10 +14,10 @@ use Rattle.process.specs.Ways.{IsValue, IsCost, IsFirst}
 use Rattle.process.proofs.Sums.{same-true}
 use Rattle.process.proofs.Value.{value-is, first-is, cost-is}
 use Rattle.model.specs.Cases.{Case, planned, valued, decides, answers, costs, refuses, reads, views, counts, fields, steps, tells, numbers, lists, tests, Holds, AllHold, casesOfA, casesOfHopeless, casesP, casesOfPlans, casesOfQueues, casesOfRefusals, casesOfBytes, casesOfSteps, casesOfListings, cases}
-use Rattle.model.specs.Counted.{Counted, counted, speedAt, weightAt, onSheet, M}
+use Rattle.model.specs.View.{View, viewOf, speedAt, weightAt, onSheet, M}
 use Rattle.model.specs.Plan.{processOf, IsValueAt, IsPlanByte, queueAt, number12}
 use Rattle.model.specs.Queue.{Queue, emptyQueue, bearable, continuationCount}
-use Rattle.model.specs.Reading.{Answer, refused, readCounted, ReadSheet, readAnswer, read}
+use Rattle.model.specs.Reading.{Answer, refused, readView, ReadSheet, readAnswer, read}
 use Rattle.model.specs.Reading
 use Rattle.model.specs.Width.{narrow, valueIn}
 use Rattle.model.specs.Refusal.{N, refusalGiven, sheetRefusal, sheetLines, valueLimit}
@@ -26,8 +26,8 @@ use Rattle.model.specs.declared.Job.{Job}
 use Rattle.model.specs.declared.Sheet.{Sheet}
 use Rattle.model.specs.declared.Speed.{Speed}
 use Rattle.model.specs.Tests.{check, everywhere}
-use Rattle.model.proofs.Computed.{valueFor, sameOption, sameAnswer, sameState, sameBy, sameSpeed, sameJob, sameCounted, whole, sameBool, quickN, orderly, byteTest, decidesTest, costTest, rowTest, test, firstFailing, AllPass, each-list-passes}
-use Rattle.model.proofs.Counted.{Climbs, climbs-rise, on-sheet}
+use Rattle.model.proofs.Computed.{valueFor, sameOption, sameAnswer, sameState, sameBy, sameSpeed, sameJob, sameView, whole, sameBool, quickN, orderly, byteTest, decidesTest, costTest, rowTest, test, firstFailing, AllPass, each-list-passes}
+use Rattle.model.proofs.View.{Climbs, climbs-rise, on-sheet}
 use Rattle.model.proofs.Queues.{queue-count}
 use Rattle.model.proofs.Tests.{and-left, and-right, check-zero, then-left, then-right, everywhere-at}
 
@@ -97,10 +97,10 @@ sameJob-true a b t =
     let f = eqb→eq (a .deadline) (b .deadline) (told .2) in
     λ i. record { weight = d i; size = e i; deadline = f i }
 
-sameCounted-true : (s z : Counted) → T (sameCounted s z) → s ≡ z
-unfolding sameCounted
-sameCounted-true s z t =
-    let fieldsOf : Counted → List ℕ = λ x. x .bound ∷ x .speedCount ∷ x .horizon ∷ x .jobCount ∷ [] in
+sameView-true : (s z : View) → T (sameView s z) → s ≡ z
+unfolding sameView
+sameView-true s z t =
+    let fieldsOf : View → List ℕ = λ x. x .bound ∷ x .speedCount ∷ x .horizon ∷ x .jobCount ∷ [] in
     let told = and-three (same (fieldsOf s) (fieldsOf z)) (sameBy sameSpeed (s .speeds) (z .speeds)) (sameBy sameJob (s .jobs) (z .jobs)) t in
     let e = same-true (fieldsOf s) (fieldsOf z) (told .0) in
     let speeds = sameBy-true sameSpeed sameSpeed-true (s .speeds) (z .speeds) (told .1) in
@@ -122,20 +122,20 @@ sameBool-true true false t = absurd t
 sameBool-true false true t = absurd t
 sameBool-true false false t = refl
 
-quickN-is : (s : Counted) → N s ≡ quickN s
+quickN-is : (s : View) → N s ≡ quickN s
 unfolding N quickN
 quickN-is s = queue-count (M s) (s .bound)
 
-refusal-is : (s : Counted) → sheetRefusal valueLimit s ≡ refusalGiven valueLimit (quickN s) s
+refusal-is : (s : View) → sheetRefusal valueLimit s ≡ refusalGiven valueLimit (quickN s) s
 unfolding sheetLines
 refusal-is s = ap (λ (n : ℕ). refusalGiven valueLimit n s) (quickN-is s)
 
-read-is : (bytes : List ℕ) → read bytes ≡ readAnswer (readCounted quickN bytes 0)
+read-is : (bytes : List ℕ) → read bytes ≡ readAnswer (readView quickN bytes 0)
 unfolding read
-read-is bytes = ap (λ (queues : Counted → ℕ). readAnswer (readCounted queues bytes 0)) (fun-ext quickN-is)
+read-is bytes = ap (λ (queues : View → ℕ). readAnswer (readView queues bytes 0)) (fun-ext quickN-is)
 
 -- `whole` taken back
-unwhole : Counted → Sheet
+unwhole : View → Sheet
 unwhole s =
     record {
       bound = s .bound;
@@ -146,7 +146,7 @@ unwhole s =
       jobs = s .jobs;
     }
 
-orderly-true : (s : Counted) → T (orderly s) → (0 < s .jobCount) × Climbs s
+orderly-true : (s : View) → T (orderly s) → (0 < s .jobCount) × Climbs s
 unfolding orderly
 orderly-true s t =
     let climbs = and-right (ltb 0 (s .jobCount)) (everywhere (λ j. ltb (speedAt s j) (speedAt s (suc j))) (pred (s .speedCount))) t in (
@@ -157,7 +157,7 @@ orderly-true s t =
           (everywhere-at (λ j. ltb (speedAt s j) (speedAt s (suc j))) (pred (s .speedCount)) climbs j (omega arith)),
     )
 
-module _ (s : Counted) (ok : T (orderly s)) where
+module _ (s : View) (ok : T (orderly s)) where
   value-sound : (k : ℕ) (w : Queue) (r : Option ℕ) → T (sameOption (valueFor s k w) r) →
       (valueFor s k w ≡ r) × IsValue (processOf s) (s .jobCount) (weightAt s) k w r
   value-sound k w r t =
@@ -199,7 +199,7 @@ module _ (s : Counted) (ok : T (orderly s)) where
       cost-is (processOf s) (s .jobCount) (weightAt s) (orderly-true s ok .0) k w a v (told .0) (on-sheet s a .0 (told .1))
       (sameOption-true price (some v) (told .2))
 
-planned-sound : (s : Counted) (t : ℕ) (values plan : List ℕ) → T (test (planned s t values plan)) → Holds (planned s t values plan)
+planned-sound : (s : View) (t : ℕ) (values plan : List ℕ) → T (test (planned s t values plan)) → Holds (planned s t values plan)
 unfolding test rowTest
 planned-sound s t values plan b =
     let n = quickN s in
@@ -238,16 +238,16 @@ sound (costs s t w a v) b =
     (and-right (orderly s) (costTest s (s .horizon - t) w a v) b)
 sound (refuses s number) b = refusal-is s ∙ eqb→eq (refusalGiven valueLimit (quickN s) s) number b
 sound (reads bytes number memory) b =
-    let quick = readAnswer (readCounted quickN bytes 0) in
-    let told : T (eqb (quick .number) number) × T (sameCounted (whole (quick .sheet)) (whole memory)) = (
-      and-left (eqb (quick .number) number) (sameCounted (whole (quick .sheet)) (whole memory)) b,
-      and-right (eqb (quick .number) number) (sameCounted (whole (quick .sheet)) (whole memory)) b,
+    let quick = readAnswer (readView quickN bytes 0) in
+    let told : T (eqb (quick .number) number) × T (sameView (whole (quick .sheet)) (whole memory)) = (
+      and-left (eqb (quick .number) number) (sameView (whole (quick .sheet)) (whole memory)) b,
+      and-right (eqb (quick .number) number) (sameView (whole (quick .sheet)) (whole memory)) b,
     ) in
-    let e = sameCounted-true (whole (quick .sheet)) (whole memory) (told .1) in (
+    let e = sameView-true (whole (quick .sheet)) (whole memory) (told .1) in (
       ap (λ (r : ReadSheet). r .number) (read-is bytes) ∙ eqb→eq (quick .number) number (told .0),
       ap (λ (r : ReadSheet). r .sheet) (read-is bytes) ∙ ap unwhole e,
     )
-sound (views memory s) b = sameCounted-true (counted memory) s b
+sound (views memory s) b = sameView-true (viewOf memory) s b
 sound (counts M D n) b = queue-count M D ∙ eqb→eq (continuationCount M D 0) n b
 sound (fields found expected) b = sameAnswer-true found expected b
 sound (steps answer number state) b = (

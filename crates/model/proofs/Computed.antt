@@ -11,11 +11,11 @@ use Rattle.process.specs.Sums.{sum, same}
 use Rattle.process.specs.Recursion.{sumOrNone, cheaper, best, priced, choice, value, plan}
 use Rattle.model.specs.Bytes.{codeIn, speedBytes, jobBytes, sheetBytes, writeLines, write}
 use Rattle.model.specs.Cases.{Case, planned, valued, decides, answers, costs, refuses, reads, views, counts, fields, steps, tells, numbers, lists, tests, casesOfA, casesOfHopeless, casesP, casesOfPlans, casesOfQueues, casesOfRefusals, casesOfBytes, casesOfSteps, casesOfListings}
-use Rattle.model.specs.Counted.{Counted, counted, speedAt, weightAt, speedsOf, onSheet, energyOf, W, M, greatestEnergy, G}
+use Rattle.model.specs.View.{View, viewOf, speedAt, weightAt, speedsOf, onSheet, energyOf, W, M, greatestEnergy, G}
 use Rattle.model.specs.Listing.{digitsIn, header, bytesListed, lineOf, listing, refusedLine, listLines, list}
 use Rattle.model.specs.Plan.{nextQueue, processOf, admissible, queueAt, number12, planLines, rowLines, row}
 use Rattle.model.specs.Queue.{Queue, emptyQueue, bearable, bearableIn, run, arrive, eachTotal, continuations, bearableQueues, queueCount, placeIn, numberOf, continuationCount}
-use Rattle.model.specs.Reading.{Answer, refused, numberIn, readSpeed, readSpeeds, readSpeedTable, readJob, readJobs, readJobTable, judged, readCounted, readAnswer}
+use Rattle.model.specs.Reading.{Answer, refused, numberIn, readSpeed, readSpeeds, readSpeedTable, readJob, readJobs, readJobTable, judged, readView, readAnswer}
 use Rattle.model.specs.Reading
 use Rattle.model.specs.Width.{narrow, numberFrom, valueIn}
 use Rattle.model.specs.Refusal.{speedsLines, jobsLines, fieldLines, limitLines, N, refusalGiven, linesGiven, sheetLines, valueLimit}
@@ -54,13 +54,13 @@ sameSpeed a b = eqb (a .speed) (b .speed) && eqb (a .energy) (b .energy)
 unfoldable pub sameJob : Job → Job → Bool
 sameJob a b = eqb (a .weight) (b .weight) && (eqb (a .size) (b .size) && eqb (a .deadline) (b .deadline))
 
-unfoldable pub sameCounted : Counted → Counted → Bool
-sameCounted s z =
+unfoldable pub sameView : View → View → Bool
+sameView s z =
     same (s .bound ∷ s .speedCount ∷ s .horizon ∷ s .jobCount ∷ []) (z .bound ∷ z .speedCount ∷ z .horizon ∷ z .jobCount ∷ []) &&
     (sameBy sameSpeed (s .speeds) (z .speeds) && sameBy sameJob (s .jobs) (z .jobs))
 
 -- a sheet in memory, with all its places
-abbrev pub whole : Sheet → Counted
+abbrev pub whole : Sheet → View
 whole s =
     record {
       bound = s .bound;
@@ -77,35 +77,35 @@ sameBool false b = not b
 
 -- N by the recurrence, which is computed at once where the list is too long to be built
 
-unfoldable pub quickN : Counted → ℕ
+unfoldable pub quickN : View → ℕ
 quickN s = continuationCount (M s) (s .bound) 0
 
 -- what the theory asks of a sheet: an entry, and speeds that rise
 
-unfoldable pub orderly : Counted → Bool
+unfoldable pub orderly : View → Bool
 orderly s = ltb 0 (s .jobCount) && everywhere (λ j. ltb (speedAt s j) (speedAt s (suc j))) (pred (s .speedCount))
 
 -- the recursion's value and plan for a sheet, k slots from its end
 
-abbrev pub valueFor : Counted → ℕ → Queue → Option ℕ
+abbrev pub valueFor : View → ℕ → Queue → Option ℕ
 valueFor s k w = value (processOf s) (s .jobCount) (weightAt s) k w
 
-unfoldable pub byteTest : Counted → ℕ → Queue → Option ℕ → ℕ → Bool
+unfoldable pub byteTest : View → ℕ → Queue → Option ℕ → ℕ → Bool
 byteTest s k w none byte = eqb byte 255
 byteTest s zero w (some v) byte = false
 byteTest s (suc k) w (some v) byte = eqb (plan (processOf s) (s .jobCount) (weightAt s) (suc k) w) byte
 
-unfoldable pub decidesTest : Counted → ℕ → Queue → Option ℕ → ℕ → Bool
+unfoldable pub decidesTest : View → ℕ → Queue → Option ℕ → ℕ → Bool
 decidesTest s k w r byte = sameOption (valueFor s k w) r && byteTest s k w r byte
 
-unfoldable pub costTest : Counted → ℕ → Queue → ℕ → ℕ → Bool
+unfoldable pub costTest : View → ℕ → Queue → ℕ → ℕ → Bool
 costTest s zero w a v = false
 costTest s (suc k) w a v =
     bearable (M s) w && (onSheet s a && sameOption (priced (processOf s) (s .jobCount) (weightAt s) k (valueFor s k) w a) (some v))
 
 -- the test of a case
 
-unfoldable pub rowTest : Counted → ℕ → List ℕ → List ℕ → ℕ → Bool
+unfoldable pub rowTest : View → ℕ → List ℕ → List ℕ → ℕ → Bool
 rowTest s t values plan i = decidesTest s (s .horizon - t) (queueAt s i) (valueIn narrow values i) (getD plan i 0)
 
 unfoldable pub test : Case → Bool
@@ -119,9 +119,9 @@ test (answers s number queues least) =
 test (costs s t w a v) = orderly s && costTest s (s .horizon - t) w a v
 test (refuses s number) = eqb (refusalGiven valueLimit (quickN s) s) number
 test (reads bytes number memory) =
-    let answer = readAnswer (readCounted quickN bytes 0) in
-    eqb (answer .number) number && sameCounted (whole (answer .sheet)) (whole memory)
-test (views memory s) = sameCounted (counted memory) s
+    let answer = readAnswer (readView quickN bytes 0) in
+    eqb (answer .number) number && sameView (whole (answer .sheet)) (whole memory)
+test (views memory s) = sameView (viewOf memory) s
 test (counts M D n) = eqb (continuationCount M D 0) n
 test (fields found expected) = sameAnswer found expected
 test (steps answer number state) = eqb (answer .number) number && sameState (answer .state) state
@@ -151,7 +151,7 @@ pub record EachListPasses : Type 0 where
   pub listings : AllPass casesOfListings
 
 pub each-list-passes : EachListPasses
-unfolding casesP casesOfA casesOfHopeless casesOfPlans casesOfQueues casesOfRefusals casesOfBytes casesOfSteps casesOfListings firstFailing test quickN orderly byteTest decidesTest costTest rowTest sameOption sameAnswer sameState sameBy sameSpeed sameJob sameCounted sameBool sum sumOrNone cheaper best priced choice value plan codeIn speedBytes jobBytes sheetBytes writeLines write digitsIn header bytesListed lineOf listing refusedLine listLines list speedsOf onSheet energyOf W M greatestEnergy G nextQueue processOf admissible planLines rowLines row bearable bearableIn run arrive eachTotal continuations bearableQueues queueCount placeIn numberOf continuationCount numberIn readSpeed readSpeeds readSpeedTable readJob readJobs readJobTable judged readCounted speedsLines jobsLines fieldLines limitLines N linesGiven sheetLines numberFrom stateRight startLines start planByte byteRight speedLines speed isEntry moved advanceLines advance inOrder inTurn everywhere anywhere firstPlace greatest listed same
+unfolding casesP casesOfA casesOfHopeless casesOfPlans casesOfQueues casesOfRefusals casesOfBytes casesOfSteps casesOfListings firstFailing test quickN orderly byteTest decidesTest costTest rowTest sameOption sameAnswer sameState sameBy sameSpeed sameJob sameView sameBool sum sumOrNone cheaper best priced choice value plan codeIn speedBytes jobBytes sheetBytes writeLines write digitsIn header bytesListed lineOf listing refusedLine listLines list speedsOf onSheet energyOf W M greatestEnergy G nextQueue processOf admissible planLines rowLines row bearable bearableIn run arrive eachTotal continuations bearableQueues queueCount placeIn numberOf continuationCount numberIn readSpeed readSpeeds readSpeedTable readJob readJobs readJobTable judged readView speedsLines jobsLines fieldLines limitLines N linesGiven sheetLines numberFrom stateRight startLines start planByte byteRight speedLines speed isEntry moved advanceLines advance inOrder inTurn everywhere anywhere firstPlace greatest listed same
 each-list-passes = record {
   marked = refl;
   plans = refl;

@@ -12,7 +12,7 @@ use lib.Dec.{eqb, ltb}
 use lib.ListN.{length, getD, drop}
 use lib.Seq.{ext-getD, getD-drop}
 use Rattle.process.proofs.Definite.{value-unique, first-unique}
-use Rattle.model.specs.Counted.{Counted, weightAt}
+use Rattle.model.specs.View.{View, weightAt}
 use Rattle.model.specs.Plan.{processOf, IsValueAt, IsPlanByte, IsPlanByteAt, queueAt, placeAt, valuesNeeded, valuePlaces, planNeeded, planRefusal, PlanAnswer, AreValues, PlanFilled, ValuesFilled, FromEmpty, LeavesBy, Leaves, number12}
 use Rattle.model.specs.Queue.{Queue, emptyQueue}
 use Rattle.model.specs.Refusal.{N}
@@ -64,7 +64,7 @@ narrow-telling l m i p h e =
     let here : i ≡ i * 1 + p = omega (arith, mul-one i) in
     subst (λ (j : ℕ). getD l j 0 ≡ getD m j 0) here (narrow-same l m i i e)
 
-module _ (s : Counted) where
+module _ (s : View) where
   -- a slot and queue have one value
   pub one-value : (t : ℕ) (w : Queue) (r q : Option ℕ) → IsValueAt s t w r → IsValueAt s t w q → r ≡ q
   one-value t w r q = value-unique (processOf s) (s .jobCount) (weightAt s) (s .horizon - t) w r q
@@ -98,7 +98,7 @@ row-and-place n rows j l = (div-lt-iff-lt-mul some .1 l, mod-lt j some, div-add-
         go zero h = omega (arith, mul-zero rows)
         go (suc n) h = omega arith
 
-module _ (s : Counted) where
+module _ (s : View) where
   -- the plans of two results, whatever their values
   pub plans-same : (r q : ℕ → ℕ → Option ℕ) (plan₀ plan plan′ : List ℕ) → AreValues s r → AreValues s q → PlanFilled s r plan₀ plan →
       PlanFilled s q plan₀ plan′ → plan ≡ plan′
@@ -137,7 +137,7 @@ module _ (s : Counted) where
           (tells (j / width .places) (j % width .places) (p .1) (at-value (j / width .places) (p .0)))
 
 -- two results for the same sheet and the same lent memory are equal
-pub leaves-unique : (width : Width) (s : Counted) (values₀ plan₀ values plan values′ plan′ : List ℕ) (a b : PlanAnswer) →
+pub leaves-unique : (width : Width) (s : View) (values₀ plan₀ values plan values′ plan′ : List ℕ) (a b : PlanAnswer) →
     Telling width values values′ → Leaves width s values₀ plan₀ values plan a → Leaves width s values₀ plan₀ values′ plan′ b →
     (values ≡ values′) × (plan ≡ plan′) × (a ≡ b)
 leaves-unique width s values₀ plan₀ values plan values′ plan′ a b tells = go (planRefusal width s (length values₀) (length plan₀))

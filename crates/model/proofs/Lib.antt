@@ -1,6 +1,6 @@
 pub mod Computed
 pub mod Tests
-pub mod Counted
+pub mod View
 pub mod Queues
 pub mod Refusal
 pub mod Admissible

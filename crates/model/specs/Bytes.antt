@@ -5,7 +5,7 @@ use mathlib.Core.Bool.{cond}
 use mathlib.Core.List.{List, [], _∷_, _++_}
 use lib.Dec.{leb, ltb, eqb}
 use lib.ListN.{length, getD, drop}
-use Rattle.model.specs.Counted.{Counted, WellCounted, zeroSpeed, zeroJob}
+use Rattle.model.specs.View.{View, WholeView, zeroSpeed, zeroJob}
 use Rattle.model.specs.Refusal.{sheetLines, sheetRefusal, valueLimit}
 use Rattle.model.specs.Tests.{Lines, line, _⨾_, firstOf, inTurn}
 use Rattle.model.specs.declared.Job.{Job}
@@ -34,14 +34,14 @@ jobCode one = code (one .weight) ++ (code (one .size) ++ code (one .deadline))
 
 -- the first n of each
 
-unfoldable pub speedBytes : Counted → ℕ → List ℕ
+unfoldable pub speedBytes : View → ℕ → List ℕ
 speedBytes s n = inTurn (λ j. speedCode (getD (s .speeds) j zeroSpeed)) n
 
-unfoldable pub jobBytes : Counted → ℕ → List ℕ
+unfoldable pub jobBytes : View → ℕ → List ℕ
 jobBytes s n = inTurn (λ i. jobCode (getD (s .jobs) i zeroJob)) n
 
 -- "Field order: D; count of speeds; for each, speed then energy; T; count of jobs; for each, weight, size, deadline. Nothing follows"
-unfoldable pub sheetBytes : Counted → List ℕ
+unfoldable pub sheetBytes : View → List ℕ
 sheetBytes s =
     code (s .bound) ++
     (code (s .speedCount) ++
@@ -51,16 +51,16 @@ sheetBytes s =
     jobBytes s (s .jobCount)))))
 
 -- the bytes are the sheet's, and it is an accepted one with as many places as its counts say
-pub record BytesOf (bytes : List ℕ) (s : Counted) : Type 0 where
+pub record BytesOf (bytes : List ℕ) (s : View) : Type 0 where
   pub bytes-are : bytes ≡ sheetBytes s
   pub is-accepted : sheetRefusal valueLimit s ≡ 0
-  pub well-counted : WellCounted s
+  pub whole-view : WholeView s
 
 -- "Planner, writer and row: 4 to 10, 11"; "11: a lent buffer shorter than needed", whose length is `room`
-unfoldable pub writeLines : Counted → ℕ → Lines
+unfoldable pub writeLines : View → ℕ → Lines
 writeLines s room = sheetLines valueLimit s ⨾ line 11 (leb (length (sheetBytes s)) room)
 
-abbrev pub writeRefusal : Counted → ℕ → ℕ
+abbrev pub writeRefusal : View → ℕ → ℕ
 writeRefusal s room = firstOf (writeLines s room)
 
 -- what a call that writes bytes answers, and what it leaves in the lent buffer
@@ -83,5 +83,5 @@ pub record Wrote (w : Written) (number length : ℕ) (after : List ℕ) : Type 0
   pub buffer-is : after ≡ w .buffer
 
 -- the writer's: the sheet's bytes
-unfoldable pub write : Counted → List ℕ → Written
+unfoldable pub write : View → List ℕ → Written
 write s buffer = written (writeRefusal s (length buffer)) (sheetBytes s) buffer

@@ -7,7 +7,7 @@ use mathlib.Core.List.{List, [], _∷_, _++_}
 use mathlib.Core.Option.{Option, none, some}
 use lib.ListN.{length, getD, take, replicate, set}
 use Rattle.model.specs.Bytes.{code, sheetBytes, write}
-use Rattle.model.specs.Counted.{Counted, counted, sheetOf}
+use Rattle.model.specs.View.{View, viewOf, viewWith}
 use Rattle.model.specs.Listing.{text, decimal, listing, refusedLine, list}
 use Rattle.model.specs.Plan.{IsValueAt, IsCostAt, IsPlanByte, PlanAnswer, FromEmpty, admissible, planRefusal, queueAt, row}
 use Rattle.model.specs.Queue.{Queue, emptyQueue, placesOf, run, arrive, queueCount, numberOf, bearable}
@@ -21,21 +21,21 @@ use Rattle.model.specs.declared.Speed.{Speed}
 
 pub data Case : Type 0 where
   -- a row of values and a row of plan bytes are those of a sheet's slot, each queue in order
-  planned : Counted → ℕ → List ℕ → List ℕ → Case
+  planned : View → ℕ → List ℕ → List ℕ → Case
   -- the value of a sheet's slot and a queue
-  valued : Counted → ℕ → Queue → Option ℕ → Case
+  valued : View → ℕ → Queue → Option ℕ → Case
   -- the value and the plan byte of a sheet's slot and a queue
-  decides : Counted → ℕ → Queue → Option ℕ → ℕ → Case
+  decides : View → ℕ → Queue → Option ℕ → ℕ → Case
   -- what the planner answers for a sheet: the number, N and the least energy
-  answers : Counted → ℕ → ℕ → ℕ → Case
+  answers : View → ℕ → ℕ → ℕ → Case
   -- what a speed costs in a sheet's slot and a queue
-  costs : Counted → ℕ → Queue → ℕ → ℕ → Case
+  costs : View → ℕ → Queue → ℕ → ℕ → Case
   -- the number of a sheet
-  refuses : Counted → ℕ → Case
+  refuses : View → ℕ → Case
   -- what reading bytes answers: the number, and the sheet with every place of it
   reads : List ℕ → ℕ → Sheet → Case
   -- the places that count of a sheet in memory
-  views : Sheet → Counted → Case
+  views : Sheet → View → Case
   -- N for M and D
   counts : ℕ → ℕ → ℕ → Case
   -- what a field, a start or an advance, and a speed call answer
@@ -58,7 +58,7 @@ Holds (answers s number queues least) = FromEmpty s (record { number = number; q
 Holds (costs s t w speed v) = IsCostAt s t w speed v
 Holds (refuses s number) = sheetRefusal valueLimit s ≡ number
 Holds (reads bytes number memory) = (read bytes .number ≡ number) × (read bytes .sheet ≡ memory)
-Holds (views memory s) = counted memory ≡ s
+Holds (views memory s) = viewOf memory ≡ s
 Holds (counts M D n) = queueCount M D ≡ n
 Holds (fields found expected) = found ≡ expected
 Holds (steps answer number state) = (answer .number ≡ number) × (answer .state ≡ state)
@@ -80,7 +80,7 @@ abbrev pub job : ℕ → ℕ → ℕ → Job
 job weight size deadline = record { weight = weight; size = size; deadline = deadline }
 
 -- a sheet in memory: nine places for speeds and thirty-two for jobs, those past the lists holding `junk`
-abbrev pub memory : ℕ → Counted → Sheet
+abbrev pub memory : ℕ → View → Sheet
 memory junk s =
     record {
       bound = s .bound;
@@ -93,15 +93,15 @@ memory junk s =
 
 -- every place zero
 abbrev pub blank : Sheet
-blank = memory 0 (sheetOf 0 [] 0 [])
+blank = memory 0 (viewWith 0 [] 0 [])
 
 -- a state; its queue is padded to six places
 abbrev pub state : Queue → ℕ → ℕ → State
 state w slot energy = record { queue = placesOf w; slot = slot; energy = energy }
 
 -- "Sheet A: D 2; speeds 0, 1, 2 with energies 0, 1, 4; T 2; jobs (weight 1, size 0, deadline 1) and (1, 2, 2)"
-abbrev pub A : Counted
-A = sheetOf 2 (at 0 0 ∷ at 1 1 ∷ at 2 4 ∷ []) 2 (job 1 0 1 ∷ job 1 2 2 ∷ [])
+abbrev pub A : View
+A = viewWith 2 (at 0 0 ∷ at 1 1 ∷ at 2 4 ∷ []) 2 (job 1 0 1 ∷ job 1 2 2 ∷ [])
 
 -- sheet A's plan, as 01's listing has it
 
@@ -123,12 +123,12 @@ abbrev pub valuesA1 : List ℕ
 valuesA1 = 0 ∷ 0 ∷ 0 ∷ 2 ∷ 8 ∷ 2 ∷ 2 ∷ 2 ∷ 8 ∷ 8 ∷ 8 ∷ 8 ∷ []
 
 -- "D 1, speeds 0 and 1 with energies 0 and 1, T 1, one job (1, 2, 1): number 12, plan bytes 255 255"
-abbrev pub hopeless : Counted
-hopeless = sheetOf 1 (at 0 0 ∷ at 1 1 ∷ []) 1 (job 1 2 1 ∷ [])
+abbrev pub hopeless : View
+hopeless = viewWith 1 (at 0 0 ∷ at 1 1 ∷ []) 1 (job 1 2 1 ∷ [])
 
 -- one job, and it is empty
-abbrev pub idle : ℕ → List Speed → ℕ → Counted
-idle D speeds T = sheetOf D speeds T (job 1 0 1 ∷ [])
+abbrev pub idle : ℕ → List Speed → ℕ → View
+idle D speeds T = viewWith D speeds T (job 1 0 1 ∷ [])
 
 abbrev pub upto5 : List Speed
 upto5 = at 0 0 ∷ at 1 0 ∷ at 2 0 ∷ at 3 0 ∷ at 4 0 ∷ at 5 0 ∷ []
@@ -200,35 +200,35 @@ casesP =
 
 -- sheets of the cases that tell apart what is easy to get wrong
 
-abbrev pub ofA : List Job → Counted
-ofA jobs = sheetOf 2 (at 0 0 ∷ at 1 1 ∷ at 2 4 ∷ []) 2 jobs
+abbrev pub ofA : List Job → View
+ofA jobs = viewWith 2 (at 0 0 ∷ at 1 1 ∷ at 2 4 ∷ []) 2 jobs
 
 -- sheet A with an entry that stands there twice
-abbrev pub twice : Counted
+abbrev pub twice : View
 twice = ofA (job 1 0 1 ∷ job 1 2 2 ∷ job 1 2 2 ∷ [])
 
 -- energies that fall while speeds rise
-abbrev pub falling : Counted
-falling = sheetOf 2 (at 0 5 ∷ at 1 3 ∷ at 2 1 ∷ []) 2 (job 1 0 1 ∷ job 1 2 2 ∷ [])
+abbrev pub falling : View
+falling = viewWith 2 (at 0 5 ∷ at 1 3 ∷ at 2 1 ∷ []) 2 (job 1 0 1 ∷ job 1 2 2 ∷ [])
 
 -- sheet A with all energies 0
-abbrev pub free : Counted
-free = sheetOf 2 (at 0 0 ∷ at 1 0 ∷ at 2 0 ∷ []) 2 (job 1 0 1 ∷ job 1 2 2 ∷ [])
+abbrev pub free : View
+free = viewWith 2 (at 0 0 ∷ at 1 0 ∷ at 2 0 ∷ []) 2 (job 1 0 1 ∷ job 1 2 2 ∷ [])
 
 -- weights that differ, and queues with no plan among queues that have one
-abbrev pub uneven : Counted
-uneven = sheetOf 2 (at 0 0 ∷ at 1 2 ∷ at 2 5 ∷ []) 2 (job 3 0 1 ∷ job 2 1 1 ∷ [])
+abbrev pub uneven : View
+uneven = viewWith 2 (at 0 0 ∷ at 1 2 ∷ at 2 5 ∷ []) 2 (job 3 0 1 ∷ job 2 1 1 ∷ [])
 
 -- two speeds, one job larger than a slot
-abbrev pub coarse : Counted
-coarse = sheetOf 2 (at 0 0 ∷ at 2 4 ∷ []) 2 (job 1 3 2 ∷ [])
+abbrev pub coarse : View
+coarse = viewWith 2 (at 0 0 ∷ at 2 4 ∷ []) 2 (job 1 3 2 ∷ [])
 
 -- one job of weight 2, energies 0 and `energy`
-abbrev pub doubling : ℕ → ℕ → Counted
-doubling energy T = sheetOf 1 (at 0 0 ∷ at 1 energy ∷ []) T (job 2 0 1 ∷ [])
+abbrev pub doubling : ℕ → ℕ → View
+doubling energy T = viewWith 1 (at 0 0 ∷ at 1 energy ∷ []) T (job 2 0 1 ∷ [])
 
 -- a sheet that names 200 speeds where nine have room
-abbrev pub crowded : Counted
+abbrev pub crowded : View
 crowded =
     record { bound = 2; speedCount = 200; speeds = replicate 9 (at 0 0); horizon = 1; jobCount = 1; jobs = job 1 0 1 ∷ [] }
 
@@ -269,7 +269,7 @@ casesOfPlans =
     decides coarse 1 (1 ∷ 4 ∷ []) none 255 ∷
     decides coarse 0 (0 ∷ 1 ∷ []) (some 8) 2 ∷
     -- a tie goes to the slower speed
-    decides (sheetOf 1 (at 0 7 ∷ at 1 7 ∷ []) 1 (job 1 0 1 ∷ [])) 0 (emptyQueue 1) (some 7) 0 ∷
+    decides (viewWith 1 (at 0 7 ∷ at 1 7 ∷ []) 1 (job 1 0 1 ∷ [])) 0 (emptyQueue 1) (some 7) 0 ∷
     -- "values, (T+1) times N places ..; and the plan, T times N bytes"
     numbers (planRefusal narrow A 36 24) 0 ∷
     numbers (planRefusal narrow A 35 24) 11 ∷
@@ -326,9 +326,9 @@ casesOfRefusals =
     refuses (idle 2 (at 0 0 ∷ at 1 65536 ∷ []) 1) 6 ∷
     refuses (idle 2 (at 0 0 ∷ at 1 65535 ∷ []) 1) 0 ∷
     refuses (idle 2 (at 0 0 ∷ at 1 65536 ∷ []) 0) 6 ∷
-    refuses (sheetOf 2 upto5 0 []) 7 ∷
-    refuses (sheetOf 2 upto5 201 []) 7 ∷
-    refuses (sheetOf 2 upto5 1 []) 8 ∷
+    refuses (viewWith 2 upto5 0 []) 7 ∷
+    refuses (viewWith 2 upto5 201 []) 7 ∷
+    refuses (viewWith 2 upto5 1 []) 8 ∷
     -- both of two jobs are looked at
     refuses (ofA (job 1 0 1 ∷ job 0 2 2 ∷ [])) 8 ∷
     refuses (ofA (job 256 0 1 ∷ job 1 2 2 ∷ [])) 8 ∷
@@ -341,11 +341,11 @@ casesOfRefusals =
     refuses (doubling 0 57) 0 ∷
     refuses (doubling 0 58) 9 ∷
     -- T 16, W 8: 16 times 2,048 times 8^16 is 2^63, which is one too many
-    refuses (sheetOf 1 (at 0 0 ∷ at 1 2047 ∷ []) 16 (job 8 0 1 ∷ [])) 0 ∷
-    refuses (sheetOf 1 (at 0 0 ∷ at 1 2048 ∷ []) 16 (job 8 0 1 ∷ [])) 9 ∷
+    refuses (viewWith 1 (at 0 0 ∷ at 1 2047 ∷ []) 16 (job 8 0 1 ∷ [])) 0 ∷
+    refuses (viewWith 1 (at 0 0 ∷ at 1 2048 ∷ []) 16 (job 8 0 1 ∷ [])) 9 ∷
     -- 9 is told before 10, and 8 before 9
-    refuses (sheetOf 5 upto6 200 (job 255 0 1 ∷ [])) 9 ∷
-    refuses (sheetOf 5 upto6 200 (job 255 0 6 ∷ [])) 8 ∷
+    refuses (viewWith 5 upto6 200 (job 255 0 1 ∷ [])) 9 ∷
+    refuses (viewWith 5 upto6 200 (job 255 0 6 ∷ [])) 8 ∷
     []
 
 -- bytes
@@ -389,7 +389,7 @@ casesOfBytes =
     reads (sheetBytes (idle 5 upto6 1)) 10 blank ∷
     -- places past the counts are no part of the sheet, and it is written alike
     views (memory 7 A) A ∷
-    lists (sheetBytes (counted (memory 7 A))) bytesA ∷
+    lists (sheetBytes (viewOf (memory 7 A))) bytesA ∷
     -- eleven: a buffer of fifteen; places past the length stay
     lists (write A (replicate 15 7) .buffer) (replicate 15 7) ∷
     numbers (write A (replicate 15 7) .number) 11 ∷

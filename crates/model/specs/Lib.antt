@@ -1,5 +1,5 @@
 pub mod Tests
-pub mod Counted
+pub mod View
 pub mod Queue
 pub mod Refusal
 pub mod Bytes

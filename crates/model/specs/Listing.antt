@@ -8,7 +8,7 @@ use mathlib.Core.List.{List, [], _∷_, _++_}
 use lib.Dec.{leb, ltb}
 use lib.ListN.{length, getD}
 use Rattle.model.specs.Bytes.{Written, written}
-use Rattle.model.specs.Counted.{Counted, W}
+use Rattle.model.specs.View.{View, W}
 use Rattle.model.specs.Plan.{byteAt, planNeeded}
 use Rattle.model.specs.Refusal.{sheetLines, N, valueLimit}
 use Rattle.model.specs.Tests.{Lines, line, _⨾_, firstOf, inTurn}
@@ -37,7 +37,7 @@ abbrev pub decimal : ℕ → List ℕ
 decimal x = digitsIn 20 x
 
 -- "W to the power T"
-abbrev pub scaleOf : Counted → ℕ
+abbrev pub scaleOf : View → ℕ
 scaleOf s = W s ^ s .horizon
 
 -- "The header has N, W to the power T, and the empty queue's value at slot 0": `queues`, `scale` and `least`
@@ -59,11 +59,11 @@ unfoldable pub lineOf : (slot : ℕ) → (byteAt : ℕ → ℕ) → (queues : �
 lineOf slot byteAt queues = decimal slot ++ (text ":" ++ (bytesListed byteAt queues ++ text "\n"))
 
 -- the line of slot t
-abbrev pub lineOfSlot : Counted → List ℕ → ℕ → List ℕ
+abbrev pub lineOfSlot : View → List ℕ → ℕ → List ℕ
 lineOfSlot s plan t = lineOf t (byteAt s plan t) (N s)
 
 -- the listing of a sheet whose plan these bytes are, and whose empty queue has the value `least` at slot 0
-unfoldable pub listing : Counted → (least : ℕ) → (plan : List ℕ) → List ℕ
+unfoldable pub listing : View → (least : ℕ) → (plan : List ℕ) → List ℕ
 listing s least plan = header (N s) (scaleOf s) least ++ inTurn (lineOfSlot s plan) (s .horizon)
 
 -- "writes either `refused n`, for any number but 0, or the listing": the line of a refusal
@@ -71,12 +71,12 @@ unfoldable pub refusedLine : ℕ → List ℕ
 refusedLine number = text "refused " ++ (decimal number ++ text "\n")
 
 -- 4 to 10, then "11: a lent buffer shorter than needed": the plan, T times N bytes, or the buffer for the listing, of length `room`
-unfoldable pub listLines : Counted → (least : ℕ) → (plan : List ℕ) → (room : ℕ) → Lines
+unfoldable pub listLines : View → (least : ℕ) → (plan : List ℕ) → (room : ℕ) → Lines
 listLines s least plan room = sheetLines valueLimit s ⨾ line 11 (leb (planNeeded s) (length plan) && leb (length (listing s least plan)) room)
 
-abbrev pub listRefusal : Counted → (least : ℕ) → (plan : List ℕ) → (room : ℕ) → ℕ
+abbrev pub listRefusal : View → (least : ℕ) → (plan : List ℕ) → (room : ℕ) → ℕ
 listRefusal s least plan room = firstOf (listLines s least plan room)
 
 -- what the call answers, and what it leaves in the lent buffer
-unfoldable pub list : Counted → (least : ℕ) → (plan buffer : List ℕ) → Written
+unfoldable pub list : View → (least : ℕ) → (plan buffer : List ℕ) → Written
 list s least plan buffer = written (listRefusal s least plan (length buffer)) (listing s least plan) buffer

@@ -5,7 +5,7 @@ use mathlib.Core.Bool.{Bool, true, false, cond}
 use mathlib.Core.List.{List, [], _∷_}
 use lib.Dec.{leb, ltb, eqb}
 use lib.ListN.{length, getD}
-use Rattle.model.specs.Counted.{Counted, sheetOf, inMemory, zeroSheet}
+use Rattle.model.specs.View.{View, viewWith, inMemory, zeroSheet}
 use Rattle.model.specs.Refusal.{boundRight, speedCountRight, speedRight, energyRight, horizonRight, jobCountRight, weightRight, sizeRight, deadlineRight, limitsRefusal, N, valueLimit}
 use Rattle.model.specs.declared.Job.{Job}
 use Rattle.model.specs.declared.Sheet.{Sheet}
@@ -120,14 +120,14 @@ abbrev pub ended : Reader (Unit {0})
 ended bytes at = test (leb (length bytes) at) 3 bytes at
 
 -- 9 and 10 of what was read; `queues` is N of a sheet, handed in as in `refusalGiven`
-unfoldable pub judged : (Counted → ℕ) → Counted → Reader Counted
+unfoldable pub judged : (View → ℕ) → View → Reader View
 judged queues s = do
   refuse (limitsRefusal valueLimit (queues s) s)
   done s
 
 -- the fields in order, and then 3, 9, 10
-unfoldable pub readCounted : (Counted → ℕ) → Reader Counted
-readCounted queues = do
+unfoldable pub readView : (View → ℕ) → Reader View
+readView queues = do
   D ← field
   test (boundRight D) 4
   speeds ← readSpeedTable
@@ -135,7 +135,7 @@ readCounted queues = do
   test (horizonRight T) 7
   jobs ← readJobTable D
   ended
-  judged queues (sheetOf D speeds T jobs)
+  judged queues (viewWith D speeds T jobs)
 
 -- what a read answers, by the number and the sheet: "A refused read gives an all-zero sheet"
 
@@ -143,9 +143,9 @@ pub record ReadSheet : Type 0 where
   pub number : ℕ
   pub sheet : Sheet
 
-abbrev pub readAnswer : Answer Counted → ReadSheet
+abbrev pub readAnswer : Answer View → ReadSheet
 readAnswer (value s next) = record { number = 0; sheet = inMemory s }
 readAnswer (refused number) = record { number = number; sheet = zeroSheet }
 
 unfoldable pub read : List ℕ → ReadSheet
-read bytes = readAnswer (readCounted N bytes 0)
+read bytes = readAnswer (readView N bytes 0)

@@ -4,7 +4,7 @@ use Prim.Native.Nat.{ℕ, zero, suc, pred, _+_, _*_, _^_, _-_, _≤_, _<_}
 use mathlib.Core.Path.{_≡_}
 use mathlib.Core.Bool.{Bool, _&&_}
 use lib.Dec.{leb, ltb, eqb}
-use Rattle.model.specs.Counted.{Counted, speedAt, energyAt, weightAt, sizeAt, deadlineAt, W, M, G}
+use Rattle.model.specs.View.{View, speedAt, energyAt, weightAt, sizeAt, deadlineAt, W, M, G}
 use Rattle.model.specs.Queue.{queueCount}
 use Rattle.model.specs.Tests.{Lines, nothing, line, _⨾_, table, firstOf, within}
 
@@ -71,7 +71,7 @@ linesOfSpeed reading j before speed energy =
     line 6 (energyRight energy)
 
 -- the first n speeds of a sheet
-unfoldable pub speedsLines : (reading : ℕ → Lines) → Counted → ℕ → Lines
+unfoldable pub speedsLines : (reading : ℕ → Lines) → View → ℕ → Lines
 speedsLines reading s n = table (λ j. linesOfSpeed reading j (speedAt s (pred j)) (speedAt s j) (energyAt s j)) n
 
 -- "for each, weight, size, deadline": a job whose weight is number k, of a sheet with deadline bound D. "8: a .. weight, size or deadline
@@ -86,13 +86,13 @@ linesOfJob reading k D weight size deadline =
     line 8 (deadlineRight D deadline)
 
 -- the first n jobs of a sheet
-unfoldable pub jobsLines : (reading : ℕ → Lines) → Counted → ℕ → Lines
+unfoldable pub jobsLines : (reading : ℕ → Lines) → View → ℕ → Lines
 jobsLines reading s n =
     table (λ i. linesOfJob reading (jobField (s .speedCount) i) (s .bound) (weightAt s i) (sizeAt s i) (deadlineAt s i)) n
 
 -- 4 to 8, in field order: "then its own range is tested before the next field". "4: D out of range", "5: count of speeds out of range ..",
 -- "7: T out of range", "8: a job count .. out of range"
-unfoldable pub fieldLines : (reading : ℕ → Lines) → Counted → Lines
+unfoldable pub fieldLines : (reading : ℕ → Lines) → View → Lines
 fieldLines reading s =
     reading 0 ⨾
     line 4 (boundRight (s .bound)) ⨾
@@ -106,7 +106,7 @@ fieldLines reading s =
     jobsLines reading s (s .jobCount)
 
 -- "9: T times G times W to the power T exceeds 2^63-1". 01's factor is T and its limit `valueLimit`; both are parameters
-abbrev pub valueFits : ℕ → ℕ → Counted → Bool
+abbrev pub valueFits : ℕ → ℕ → View → Bool
 valueFits factor limit s = leb (factor * G s * W s ^ s .horizon) limit
 
 -- "2^63-1", the limit of number 9 in 01: no value passes it
@@ -118,20 +118,20 @@ abbrev pub queuesFit : ℕ → Bool
 queuesFit queues = leb queues 65535
 
 -- N of a sheet
-unfoldable pub N : Counted → ℕ
+unfoldable pub N : View → ℕ
 N s = queueCount (M s) (s .bound)
 
 -- 9, of a limit, and 10, of the sheet as a whole. Its N is handed in as `queues`, so that the cases can be computed with 01's recurrence,
 -- which is proved equal; `sheetLines` hands in N itself
-unfoldable pub limitLines : (limit queues : ℕ) → Counted → Lines
+unfoldable pub limitLines : (limit queues : ℕ) → View → Lines
 limitLines limit queues s = line 9 (valueFits (s .horizon) limit s) ⨾ line 10 (queuesFit queues)
 
 -- 4 to 10 in field order, where the sheet's N is `queues`
-unfoldable pub linesGiven : (limit queues : ℕ) → Counted → Lines
+unfoldable pub linesGiven : (limit queues : ℕ) → View → Lines
 linesGiven limit queues s = fieldLines nothingRead s ⨾ limitLines limit queues s
 
 -- "A sheet in memory is tested 4 to 10 in that field order by every call": 9 of the limit that the call names
-unfoldable pub sheetLines : (limit : ℕ) → Counted → Lines
+unfoldable pub sheetLines : (limit : ℕ) → View → Lines
 sheetLines limit s = linesGiven limit (N s) s
 
 -- the numbers
@@ -140,39 +140,39 @@ sheetLines limit s = linesGiven limit (N s) s
 abbrev pub refusalOfSpeed : ℕ → ℕ → ℕ → ℕ → ℕ
 refusalOfSpeed j before speed energy = firstOf (linesOfSpeed nothingRead j before speed energy)
 
-abbrev pub speedRefusalAt : Counted → ℕ → ℕ
+abbrev pub speedRefusalAt : View → ℕ → ℕ
 speedRefusalAt s j = refusalOfSpeed j (speedAt s (pred j)) (speedAt s j) (energyAt s j)
 
-abbrev pub speedsRefusal : Counted → ℕ → ℕ
+abbrev pub speedsRefusal : View → ℕ → ℕ
 speedsRefusal s n = firstOf (speedsLines nothingRead s n)
 
 -- of one job in memory
 abbrev pub refusalOfJob : ℕ → ℕ → ℕ → ℕ → ℕ
 refusalOfJob D weight size deadline = firstOf (linesOfJob nothingRead 0 D weight size deadline)
 
-abbrev pub jobRefusalAt : Counted → ℕ → ℕ
+abbrev pub jobRefusalAt : View → ℕ → ℕ
 jobRefusalAt s i = refusalOfJob (s .bound) (weightAt s i) (sizeAt s i) (deadlineAt s i)
 
-abbrev pub jobsRefusal : Counted → ℕ → ℕ
+abbrev pub jobsRefusal : View → ℕ → ℕ
 jobsRefusal s n = firstOf (jobsLines nothingRead s n)
 
-abbrev pub fieldsRefusal : Counted → ℕ
+abbrev pub fieldsRefusal : View → ℕ
 fieldsRefusal s = firstOf (fieldLines nothingRead s)
 
-abbrev pub limitsRefusal : (limit queues : ℕ) → Counted → ℕ
+abbrev pub limitsRefusal : (limit queues : ℕ) → View → ℕ
 limitsRefusal limit queues s = firstOf (limitLines limit queues s)
 
-abbrev pub refusalGiven : (limit queues : ℕ) → Counted → ℕ
+abbrev pub refusalGiven : (limit queues : ℕ) → View → ℕ
 refusalGiven limit queues s = firstOf (linesGiven limit queues s)
 
 -- the number of a sheet: 0, or the first of 4 to 10 whose test fails
-abbrev pub sheetRefusal : (limit : ℕ) → Counted → ℕ
+abbrev pub sheetRefusal : (limit : ℕ) → View → ℕ
 sheetRefusal limit s = firstOf (sheetLines limit s)
 
 -- the same as plain facts, which theorems ask for; that an accepted sheet has them is proved (`accepted` in proofs/Refusal.antt)
 
 -- document 01's ranges, of each place that counts: what 4 to 8 test
-pub record Ranged (s : Counted) : Type 0 where
+pub record Ranged (s : View) : Type 0 where
   pub bound-low : 1 ≤ s .bound
   pub bound-high : s .bound ≤ 6
   pub speeds-low : 2 ≤ s .speedCount
@@ -192,7 +192,7 @@ pub record Ranged (s : Counted) : Type 0 where
   pub deadline-high : (i : ℕ) → i < s .jobCount → deadlineAt s i ≤ s .bound
 
 -- and the limits of the whole sheet: what 9 and 10 test
-pub record Accepted (limit : ℕ) (s : Counted) : Type 0 where
+pub record Accepted (limit : ℕ) (s : View) : Type 0 where
   pub ranged : Ranged s
   pub fits : s .horizon * G s * W s ^ s .horizon ≤ limit
   pub queues-high : N s ≤ 65535

@@ -9,8 +9,8 @@ use native.Mathlib.Omega.{arith}
 use borrow.Author.Tests.{ne-eqb, eqb-false, lt-leb, le-leb, ltb-true, ltb-false}
 use lib.Dec.{leb, ltb, eqb}
 use lib.ListN.{length, getD}
-use Rattle.model.specs.Counted.{Counted, sheetOf, inMemory, zeroSheet, zeroSpeed, zeroJob}
-use Rattle.model.specs.Reading.{_>>=_, _>>_, Answer, value, refused, Reader, onward, done, test, refuse, joined, numberIn, field, readSpeed, readSpeeds, readSpeedTable, readJob, readJobs, readJobTable, ended, judged, readCounted, readAnswer, read}
+use Rattle.model.specs.View.{View, viewWith, inMemory, zeroSheet, zeroSpeed, zeroJob}
+use Rattle.model.specs.Reading.{_>>=_, _>>_, Answer, value, refused, Reader, onward, done, test, refuse, joined, numberIn, field, readSpeed, readSpeeds, readSpeedTable, readJob, readJobs, readJobTable, ended, judged, readView, readAnswer, read}
 use Rattle.model.specs.Refusal.{boundRight, speedCountRight, speedRight, energyRight, horizonRight, jobCountRight, weightRight, sizeRight, deadlineRight, speedField, jobField, linesOfSpeed, linesOfJob, speedsLines, jobsLines, fieldLines, limitLines, limitsRefusal, N, valueLimit}
 use Rattle.model.specs.Tests.{check, _then_, line, _⨾_, firstOf, inOrder, listed}
 use Rattle.model.specs.declared.Job.{Job}
@@ -232,26 +232,26 @@ speed-same bytes n (suc j) h =
 
 -- a whole sheet: what is read after D, after the speeds, after T and after the jobs
 
-abbrev afterJobs : Counted → Reader Counted
+abbrev afterJobs : View → Reader View
 afterJobs s = do
   ended
   judged N s
 
-abbrev afterHorizon : (D : ℕ) → List Speed → (T : ℕ) → Reader Counted
+abbrev afterHorizon : (D : ℕ) → List Speed → (T : ℕ) → Reader View
 afterHorizon D speeds T = do
   jobs ← readJobTable D
-  afterJobs (sheetOf D speeds T jobs)
+  afterJobs (viewWith D speeds T jobs)
 
-abbrev afterSpeeds : (D : ℕ) → List Speed → Reader Counted
+abbrev afterSpeeds : (D : ℕ) → List Speed → Reader View
 afterSpeeds D speeds = tested horizonRight 7 (afterHorizon D speeds)
 
-abbrev afterBound : (D : ℕ) → Reader Counted
+abbrev afterBound : (D : ℕ) → Reader View
 afterBound D = do
   speeds ← readSpeedTable
   afterSpeeds D speeds
 
 -- "3: bytes follow the last field", and 9 and 10 of what was read
-after-jobs : (bytes : List ℕ) (s : Counted) (at : ℕ) →
+after-jobs : (bytes : List ℕ) (s : View) (at : ℕ) →
     Gives (afterJobs s bytes at) (check (leb (length bytes) at) 3 then limitsRefusal valueLimit (N s) s) s at
 unfolding judged
 after-jobs bytes s at =
@@ -299,7 +299,7 @@ module _ (bytes : List ℕ) where
   -- the tables are as long as their counts say
   counts-same :
       let s = sheetIn bytes in
-      sheetOf (s .bound) (s .speeds) (s .horizon) (s .jobs) ≡ s
+      viewWith (s .bound) (s .speeds) (s .horizon) (s .jobs) ≡ s
   unfolding sheetIn
   counts-same =
       let n = fieldOf bytes 1 in
@@ -316,13 +316,13 @@ module _ (bytes : List ℕ) where
       }
 
   -- the whole sheet
-  sheet-gives : Gives (readCounted N bytes 0) (firstOf (readLines bytes)) (sheetIn bytes) (endOf bytes)
-  unfolding readCounted readLines fieldLines speedsLines jobsLines sheetIn placeOfNumber
+  sheet-gives : Gives (readView N bytes 0) (firstOf (readLines bytes)) (sheetIn bytes) (endOf bytes)
+  unfolding readView readLines fieldLines speedsLines jobsLines sheetIn placeOfNumber
   sheet-gives =
       let s = sheetIn bytes in
-      let sheet : List Job → Counted = λ jobs. sheetOf (s .bound) (s .speeds) (s .horizon) jobs in
+      let sheet : List Job → View = λ jobs. viewWith (s .bound) (s .speeds) (s .horizon) jobs in
       let from-end =
-      subst (λ (z : Counted). Gives (afterJobs z bytes (endOf bytes)) (firstOf (endLine bytes ⨾ limitLines valueLimit (N s) s)) s (endOf bytes)) (sym counts-same)
+      subst (λ (z : View). Gives (afterJobs z bytes (endOf bytes)) (firstOf (endLine bytes ⨾ limitLines valueLimit (N s) s)) s (endOf bytes)) (sym counts-same)
       (after-jobs bytes s (endOf bytes)) in
       let from-jobs = then-gives (λ jobs next. afterJobs (sheet jobs) bytes next) job-table-gives from-end in
       let from-horizon = tested-gives bytes (speedField (s .speedCount)) horizonRight 6 (afterHorizon (s .bound) (s .speeds)) from-jobs in
@@ -332,12 +332,12 @@ module _ (bytes : List ℕ) where
 -- what a read answers, by the number of its tests
 
 -- its number is that number
-answer-number : {x : Answer Counted} {n : ℕ} {s : Counted} {next : ℕ} → Gives x n s next → readAnswer x .number ≡ n
+answer-number : {x : Answer View} {n : ℕ} {s : View} {next : ℕ} → Gives x n s next → readAnswer x .number ≡ n
 answer-number {n = zero} g = rw (g .answer)
 answer-number {n = suc n} g = rw (g .answer)
 
 -- and its sheet is what was read, where that number is 0
-answer-sheet : {x : Answer Counted} {n : ℕ} {s : Counted} {next : ℕ} → Gives x n s next → n ≡ 0 → readAnswer x .sheet ≡ inMemory s
+answer-sheet : {x : Answer View} {n : ℕ} {s : View} {next : ℕ} → Gives x n s next → n ≡ 0 → readAnswer x .sheet ≡ inMemory s
 answer-sheet {n = zero} g e = rw (g .answer)
 answer-sheet {n = suc n} g e = absurd (suc-ne-zero n e)
 
@@ -354,8 +354,8 @@ read-accepted bytes e = answer-sheet (sheet-gives bytes) (sym (read-number bytes
 -- "A refused read gives an all-zero sheet"
 pub read-zero : (bytes : List ℕ) → (read bytes .number ≡ 0 → ⊥) → read bytes .sheet ≡ zeroSheet
 unfolding read
-read-zero bytes = go (readCounted N bytes 0)
+read-zero bytes = go (readView N bytes 0)
   where
-    go : (x : Answer Counted) → (readAnswer x .number ≡ 0 → ⊥) → readAnswer x .sheet ≡ zeroSheet
+    go : (x : Answer View) → (readAnswer x .number ≡ 0 → ⊥) → readAnswer x .sheet ≡ zeroSheet
     go (value s next) some = absurd (some refl)
     go (refused number) some = refl

@@ -4,7 +4,7 @@ use Prim.Native.Nat.{ℕ}
 use mathlib.Core.Bool.{Bool}
 use mathlib.Core.List.{List, [], _∷_}
 use lib.Dec.{T}
-use Rattle.model.specs.Counted.{Counted}
+use Rattle.model.specs.View.{View}
 use Rattle.model.specs.Refusal.{speedsLines, jobsLines, fieldLines, limitLines, linesGiven, sheetLines}
 use Rattle.model.specs.Tests.{Lines}
 use Rattle.orders.proofs.InOrder.{Each}
@@ -14,7 +14,7 @@ abbrev pub EachNumber : (ℕ → Bool) → List ℕ → Type 0
 EachNumber so [] = Unit {0}
 EachNumber so (n ∷ l) = T (so n) × EachNumber so l
 
-module _ (so : ℕ → Bool) (s : Counted) where
+module _ (so : ℕ → Bool) (s : View) where
   -- 4 to 8, and those of what is tested where a number is read
   pub each-field : (reading : ℕ → Lines) → ((k : ℕ) → Each so (reading k)) → EachNumber so (4 ∷ 5 ∷ 6 ∷ 7 ∷ 8 ∷ []) → Each so (fieldLines reading s)
   unfolding fieldLines speedsLines jobsLines

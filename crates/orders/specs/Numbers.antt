@@ -8,7 +8,7 @@ use mathlib.Core.Logic.{_⊎_, _↔_}
 use mathlib.Core.Option.{Option, none, some}
 use lib.Dec.{T, leb, ltb, eqb}
 use lib.ListN.{length, getD}
-use Rattle.model.specs.Counted.{Counted}
+use Rattle.model.specs.View.{View}
 use Rattle.model.specs.Reading.{Answer, value, refused, field}
 use Rattle.model.specs.Refusal.{speedField, jobField, fieldLines, limitLines, N, valueLimit}
 use Rattle.model.specs.Tests.{Lines, nothing, line, _⨾_, table, listed}
@@ -83,7 +83,7 @@ jobIn bytes speedCount i =
     record { weight = fieldOf bytes k; size = fieldOf bytes (suc k); deadline = fieldOf bytes (suc (suc k)) }
 
 -- the sheet
-unfoldable pub sheetIn : List ℕ → Counted
+unfoldable pub sheetIn : List ℕ → View
 sheetIn bytes =
     let speedCount = fieldOf bytes 1 in
     let jobCount = fieldOf bytes (suc (speedField speedCount)) in

@@ -9,16 +9,16 @@ use lib.ListN.{length}
 use Rattle.process.specs.Ways.{IsValue}
 use Rattle.process.specs.Pairing.{Eases}
 use Rattle.process.proofs.Eased.{eased-values}
-use Rattle.model.specs.Counted.{Counted, weightAt, sizeAt, deadlineAt, M}
+use Rattle.model.specs.View.{View, weightAt, sizeAt, deadlineAt, M}
 use Rattle.model.specs.Queue.{Queue, total, run}
 use Rattle.model.specs.Plan.{processOf, nextQueue, IsValueAt}
-use Rattle.model.proofs.Counted.{on-sheet, speed-upto, speed-least}
+use Rattle.model.proofs.View.{on-sheet, speed-upto, speed-least}
 use Rattle.model.proofs.Refusal.{accepted}
 use Rattle.model.proofs.Queues.{length-run, length-arrive}
 use Rattle.laws.proofs.Longer.{run-never-falls, run-no-longer, arrive-never-falls, arrive-no-longer, bearable-carries}
 use Rattle.pairs.specs.Paired.{Paired, NowhereLonger}
 
-module _ {first second : Counted} {there back : ℕ → ℕ} (p : Paired first second there back) where
+module _ {first second : View} {there back : ℕ → ℕ} (p : Paired first second there back) where
   -- the second's largest speed is no less
   pub largest : M first ≤ M second
   largest = speed-least first (M second) (λ a t. speed-upto second a (p .has-speed a t))
@@ -58,7 +58,7 @@ module _ {first second : Counted} {there back : ℕ → ℕ} (p : Paired first s
       }
 
 -- where the first has a plan, the second has one, at no more energy
-pub demand3 : (first second : Counted) (there back : ℕ → ℕ) → Paired first second there back →
+pub demand3 : (first second : View) (there back : ℕ → ℕ) → Paired first second there back →
     (v w : Queue) → NowhereLonger v w → (t u : ℕ) → IsValueAt first t w (some u) → (u′ : ℕ) × IsValueAt second t v (some u′) × (u′ ≤ u)
 demand3 first second there back p v w r t u i =
     let P = processOf first in

@@ -6,7 +6,7 @@ use mathlib.Core.Option.{some}
 use native.Mathlib.Nat.{le-refl}
 use native.Mathlib.Omega.{arith}
 use lib.ListN.{length}
-use Rattle.model.specs.Counted.{Counted}
+use Rattle.model.specs.View.{View}
 use Rattle.model.specs.Plan.{IsValueAt, HasValue}
 use Rattle.model.specs.Queue.{Queue, emptyQueue}
 use Rattle.model.specs.Refusal.{sheetRefusal, valueLimit}
@@ -15,7 +15,7 @@ use Rattle.pairs.specs.Paired.{Paired, NowhereLonger}
 use Rattle.pairs.proofs.Demand3.{demand3}
 
 -- a sheet is paired with itself
-paired-self : (s : Counted) → sheetRefusal valueLimit s ≡ 0 → Paired s s (λ i. i) (λ i. i)
+paired-self : (s : View) → sheetRefusal valueLimit s ≡ 0 → Paired s s (λ i. i) (λ i. i)
 paired-self s e =
     record {
       first-accepted = e;
@@ -41,7 +41,7 @@ empty-no-longer D w long =
     }
 
 -- where a queue has a value at a slot, the empty one has
-pub empty-has-value : (s : Counted) → sheetRefusal valueLimit s ≡ 0 → (w : Queue) → length w ≡ s .bound → (t v : ℕ) → IsValueAt s t w (some v) →
+pub empty-has-value : (s : View) → sheetRefusal valueLimit s ≡ 0 → (w : Queue) → length w ≡ s .bound → (t v : ℕ) → IsValueAt s t w (some v) →
     HasValue s t (emptyQueue (s .bound))
 empty-has-value s accepted w long t v value =
     let eased = demand3 s s (λ i. i) (λ i. i) (paired-self s accepted) (emptyQueue (s .bound)) w (empty-no-longer (s .bound) w long) t v value in

@@ -9,16 +9,16 @@ use lib.Dec.{T, lit≤}
 use Rattle.process.specs.Sums.{sum}
 use Rattle.process.specs.Pairing.{OneToOne}
 use Rattle.model.specs.Cases.{A, at, job}
-use Rattle.model.specs.Counted.{Counted, speedAt, weightAt, sizeAt, deadlineAt, onSheet, energyOf, greatestEnergy, G, M, W, sheetOf}
+use Rattle.model.specs.View.{View, speedAt, weightAt, sizeAt, deadlineAt, onSheet, energyOf, greatestEnergy, G, M, W, viewWith}
 use Rattle.model.specs.Queue.{bearableQueues, continuations, eachTotal, queueCount}
 use Rattle.model.specs.Refusal.{speedsLines, jobsLines, fieldLines, limitLines, linesGiven, sheetLines, sheetRefusal, N, valueLimit}
 use Rattle.model.specs.Tests.{inOrder, firstPlace, greatest}
-use Rattle.model.proofs.Counted.{on-sheet-at, place-of}
+use Rattle.model.proofs.View.{on-sheet-at, place-of}
 use Rattle.pairs.specs.Paired.{Paired}
 
 -- sheet A with its entries the other way round, the second of them smaller, energies no more, and a speed 3
-abbrev easier : Counted
-easier = sheetOf 2 (at 0 0 ∷ at 1 1 ∷ at 2 3 ∷ at 3 9 ∷ []) 2 (job 1 1 2 ∷ job 1 0 1 ∷ [])
+abbrev easier : View
+easier = viewWith 2 (at 0 0 ∷ at 1 1 ∷ at 2 3 ∷ at 3 9 ∷ []) 2 (job 1 1 2 ∷ job 1 0 1 ∷ [])
 
 -- an entry's partner is at the other place
 abbrev other : ℕ → ℕ

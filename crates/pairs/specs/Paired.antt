@@ -5,12 +5,12 @@ use mathlib.Core.Logic.{_⊎_}
 use lib.Dec.{T}
 use lib.ListN.{length}
 use Rattle.process.specs.Pairing.{OneToOne}
-use Rattle.model.specs.Counted.{Counted, weightAt, sizeAt, deadlineAt, onSheet, energyOf}
+use Rattle.model.specs.View.{View, weightAt, sizeAt, deadlineAt, onSheet, energyOf}
 use Rattle.model.specs.Queue.{Queue, NeverFalls, NoLonger}
 use Rattle.model.specs.Refusal.{sheetRefusal, valueLimit}
 
 -- two accepted sheets; the entry of `first` at place i is paired with that of `second` at place `there i`
-pub record Paired (first second : Counted) (there back : ℕ → ℕ) : Type 0 where
+pub record Paired (first second : View) (there back : ℕ → ℕ) : Type 0 where
   pub first-accepted : sheetRefusal valueLimit first ≡ 0
   pub second-accepted : sheetRefusal valueLimit second ≡ 0
   pub same-bound : second .bound ≡ first .bound

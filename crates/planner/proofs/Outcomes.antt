@@ -7,7 +7,7 @@ use native.Mathlib.Nat.{suc-mul}
 use native.Mathlib.Omega.{arith}
 use lib.ListN.{length}
 use Rattle.model.proofs.Refusal.{Accepted, N-low}
-use Rattle.model.specs.Counted.{Counted}
+use Rattle.model.specs.View.{View}
 use Rattle.model.specs.Plan.{PlanAnswer, LeavesBy, Filled, valuesNeeded, valuePlaces, planRefusal}
 use Rattle.model.specs.Refusal.{N}
 use Rattle.model.specs.Width.{Width, narrow}
@@ -18,7 +18,7 @@ use Rattle.sheets.specs.Sizes.{Sized}
 use Rattle.sheets.specs.declared.sizes.Sizes.{Sizes}
 use Rattle.buffers.proofs.Filling.{fewer-fit}
 
-module _ (s : Counted) where
+module _ (s : View) where
   -- what a refused plan leaves: all as it was, and it answers the number and zeros
   pub refused-plan : (values plan : List ℕ) {refusal number queues least : ℕ} → refusal ≡ planRefusal narrow s (length values) (length plan) →
       (refusal ≡ 0 → ⊥) → number ≡ refusal → queues ≡ 0 → least ≡ 0 → IsPlan s values plan values plan number queues least
@@ -49,7 +49,7 @@ module _ (s : Counted) where
       omega (arith, e ∙ place-is s sized (s .horizon) (sizes .queues), sized .queues-is, suc-mul (s .horizon) (N s))
 
 -- at any width the first value of all is within values that are as long as those that were lent
-pub first-within : (width : Width) (s : Counted) {sizes : Sizes} {limit : ℕ} → Sized s sizes → Accepted limit s → {lent room place : ℕ} →
+pub first-within : (width : Width) (s : View) {sizes : Sizes} {limit : ℕ} → Sized s sizes → Accepted limit s → {lent room place : ℕ} →
     valuePlaces width s ≤ lent → room ≡ lent → place ≡ placeIn (sizes .queues) 0 0 → suc place * width .places ≤ room
 first-within width s sized a fit same here =
     let some : 1 ≤ valuesNeeded s = omega (arith, N-low s (a .ranged), suc-mul (s .horizon) (N s)) in

@@ -14,7 +14,7 @@ use Rattle.process.specs.Recursion.{Choice, nothing, chosen, worth, actionOf, p
 use Rattle.process.specs.Ways.{IsValue, IsFirst}
 use Rattle.model.proofs.Queues.{listed-bearable, empty-first}
 use Rattle.model.proofs.Refusal.{Accepted, speeds-rise, N-is, N-low}
-use Rattle.model.specs.Counted.{Counted, weightAt, M}
+use Rattle.model.specs.View.{View, weightAt, M}
 use Rattle.model.specs.Plan.{processOf, IsValueAt, IsPlanByte, queueAt, placeAt, valuePlaces, planNeeded, PlanAnswer, PlanFilled, ValuesFilled, Filled, number12}
 use Rattle.model.specs.Queue.{Queue, emptyQueue, bearable}
 use Rattle.model.specs.Refusal.{N}
@@ -29,7 +29,7 @@ drop-same n l m long same =
     ext-getD 0 (drop n l) (drop n m) (length-drop n l ∙ ap (λ (k : ℕ). k - n) long ∙ sym (length-drop n m))
     (λ i h. getD-drop n l i 0 ∙ same (n + i) (omega arith) ∙ sym (getD-drop n m i 0))
 
-module _ (s : Counted) {limit : ℕ} (a : Accepted limit s) where
+module _ (s : View) {limit : ℕ} (a : Accepted limit s) where
   -- the recursion's value is the least scaled energy of a good way, or none where no way is good
   pub value-least : (k : ℕ) (w : Queue) → IsValue (processOf s) (s .jobCount) (weightAt s) k w (valueWith s k w)
   unfolding valueWith
@@ -64,7 +64,7 @@ module _ (s : Counted) {limit : ℕ} (a : Accepted limit s) where
       go (chosen speed v) e = first-right (s .horizon - t) w speed v (omega arith) b e
 
 -- memory that is planned from the horizon back to slot 0, at any width
-module _ (width : Width) (s : Counted) {limit : ℕ} (a : Accepted limit s) {values₀ plan₀ values plan : List ℕ}
+module _ (width : Width) (s : View) {limit : ℕ} (a : Accepted limit s) {values₀ plan₀ values plan : List ℕ}
     (p : PlannedFrom width s (s .horizon) values₀ plan₀ values plan) where
   -- the values are the recursion's
   abbrev valueAt : ℕ → ℕ → Option ℕ

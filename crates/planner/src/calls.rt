@@ -8,7 +8,7 @@ use sheets::sizes_of;
 use value::Value;
 ghost use mathlib.Core.Path.{_≡_};
 ghost use mathlib.Core.Option.{Option·getD};
-ghost use Rattle.model.specs.Counted.{counted};
+ghost use Rattle.model.specs.View.{viewOf};
 ghost use Rattle.model.specs.Plan.{planRefusal, number12};
 ghost use Rattle.counts.specs.Counts.{HoldsCounts};
 ghost use Rattle.value.specs.Narrow.{width, valueOf};
@@ -53,7 +53,7 @@ fn planned(queues: u32, least: Value) -> PlanAnswer
 // 4 to 10, then 11 where the lent values are too short for T+1 rows or the lent plan for T.
 fn plan_refusal(counts: &[u32; 2352], sheet: Sheet, values_room: usize, plan_room: usize) -> u32
     requires { ⌜ HoldsCounts (now counts) ⌝ }
-    ensures { λ r. ⌜ r ≡ planRefusal width (counted sheet) «values_room» «plan_room» ⌝ }
+    ensures { λ r. ⌜ r ≡ planRefusal width (viewOf sheet) «values_room» «plan_room» ⌝ }
 {
     let number = sheet_refusal(counts, sheet);
     if number != 0 {
@@ -72,7 +72,7 @@ fn plan_refusal(counts: &[u32; 2352], sheet: Sheet, values_room: usize, plan_roo
 
 // Works out the plan of a sheet: T+1 rows of values and T rows of plan bytes, in lent memory.
 pub fn plan(sheet: Sheet, values: &mut [u64], plan: &mut [u8]) -> PlanAnswer
-    ensures { λ r. ⌜ IsPlan (counted sheet) (now (values .entry)) (now (plan .entry)) (now (values .exit)) (now (plan .exit))
+    ensures { λ r. ⌜ IsPlan (viewOf sheet) (now (values .entry)) (now (plan .entry)) (now (values .exit)) (now (plan .exit))
         (r .number) (r .queues) (r .least) ⌝ }
 {
     let counts = table();

@@ -2,7 +2,7 @@
 -- energy of a good way, or none where no way is good, and its plan begins a least good way with the smallest action.
 use Prim.Native.Nat.{ℕ, zero, suc, _+_, _*_, _-_, _^_, _≤_, _<_}
 use mathlib.Core.Path.{_≡_, refl, ap, _∙_, subst, fun-ext}
-use mathlib.Core.Bool.{Bool, true, false}
+use mathlib.Core.Bool.{Bool, true, false, cond}
 use mathlib.Core.List.{List, [], _∷_}
 use mathlib.Core.Option.{Option, none, some, Option·getD, Option·some-injective, Option·none-ne-some}
 use mathlib.Core.Logic.{_⊎_, inl, inr, ⊎-elim, _↔_}
@@ -15,7 +15,7 @@ use borrow.Author.Tests.{ltb-true, ltb-false}
 use Rattle.process.specs.Sums.{sum, Events, overLists, weight}
 use Rattle.process.specs.Ways.{Process, Way, later, Among, Along, Good, spent, energy, IsValue, IsCost, IsLeast, IsFirst}
 pub use Rattle.process.specs.Recursion.{UptoOr}
-use Rattle.process.specs.Recursion.{Upto, plus, times, sumOrNone, only, Choice, nothing, chosen, choose, cheaper, better}
+use Rattle.process.specs.Recursion.{Upto, plus, times, sumOrNone, only, Choice, nothing, chosen, cheaper, better}
 use Rattle.process.specs.Recursion.{best, worth, actionOf, priced, choice, value, plan, ruled}
 use Rattle.process.specs.Pairing.{Rising}
 use Rattle.process.proofs.Definite.{value-unique, first-unique}
@@ -107,7 +107,7 @@ better-upto c a none u t = ⊎-elim absurd (λ s. s) t
 better-upto nothing a (some v) u t = ⊎-elim (λ s. s) absurd t
 better-upto (chosen b s) a (some v) u t = go (cheaper v s) refl t
   where
-    go : (x : Bool) → cheaper v s ≡ x → (v ≤ u) ⊎ (s ≤ u) → Upto (worth (choose x (chosen a v) (chosen b s))) u
+    go : (x : Bool) → cheaper v s ≡ x → (v ≤ u) ⊎ (s ≤ u) → Upto (worth (cond x (chosen a v) (chosen b s))) u
     go true e = ⊎-elim (λ q. q) (λ q. omega (arith, cheaper-true v s e))
     go false e = ⊎-elim (λ q. omega (arith, cheaper-false v s e)) (λ q. q)
 
@@ -134,7 +134,7 @@ module _ (price : ℕ → Option ℕ) (actions : List ℕ) where
   best-found (suc j) = go (best price actions j) (price (getD actions j 0)) refl refl (best-found j)
     where
       pick : (a b s v : ℕ) (x : Bool) → cheaper v s ≡ x → best price actions j ≡ chosen b s → getD actions j 0 ≡ a → price a ≡ some v →
-          Found price actions j (chosen b s) → Found price actions (suc j) (choose x (chosen a v) (chosen b s))
+          Found price actions j (chosen b s) → Found price actions (suc j) (cond x (chosen a v) (chosen b s))
       pick a b s v true e p o q f =
           (j, omega arith, o, q, λ m l u t. omega (arith, cheaper-true v s e, subst (λ c. Upto (worth c) u) p (best-upto j m u l t)))
       pick a b s v false e p o q f = (f .0, omega arith, f .2, f .3, f .4)

@@ -1,7 +1,7 @@
 -- The backward induction: a recursion over the slots left that finds the least good way. The planner computes it; that it answers the
 -- published problem of Ways.antt is proved in proofs/. No contract of a public call mentions it.
 use Prim.Native.Nat.{ℕ, zero, suc, _+_, _*_, _^_, _≤_}
-use mathlib.Core.Bool.{Bool, true, false}
+use mathlib.Core.Bool.{Bool, true, false, cond}
 use mathlib.Core.List.{List, [], _∷_}
 use mathlib.Core.Option.{Option, none, some}
 use lib.Dec.{ltb}
@@ -43,10 +43,6 @@ pub data Choice : Type 0 where
   nothing : Choice
   chosen : ℕ → ℕ → Choice
 
-abbrev pub choose : Bool → Choice → Choice → Choice
-choose true c d = c
-choose false c d = d
-
 -- when a later action is taken for an earlier one: where its price v is less than u, so that ties go to the first
 unfoldable pub cheaper : ℕ → ℕ → Bool
 cheaper v u = ltb v u
@@ -55,7 +51,7 @@ cheaper v u = ltb v u
 abbrev pub better : Choice → ℕ → Option ℕ → Choice
 better c a none = c
 better nothing a (some v) = chosen a v
-better (chosen b u) a (some v) = choose (cheaper v u) (chosen a v) (chosen b u)
+better (chosen b u) a (some v) = cond (cheaper v u) (chosen a v) (chosen b u)
 
 -- the least of the first j actions
 unfoldable pub best : (ℕ → Option ℕ) → List ℕ → ℕ → Choice

@@ -6,7 +6,7 @@ use native.Mathlib.Omega.{arith}
 use Rattle.process.specs.Sums.{sum}
 use Rattle.process.proofs.Sums.{sum-upto}
 use Rattle.model.specs.Queue.{queueCount, continuationCount}
-use Rattle.model.specs.Counted.{Counted, M}
+use Rattle.model.specs.View.{View, M}
 use Rattle.model.proofs.Queues.{queue-count}
 use Rattle.model.proofs.Refusal.{Ranged, M-low, M-high}
 use Rattle.counts.specs.Counts.{InTable}
@@ -24,7 +24,7 @@ queues-few M D high bound =
     le-trans (omega (arith, queue-count M D, count-few M D 0 high bound zero-le)) (pow-le-pow-right {n = 49} (zero-lt-suc 48) bound)
 
 -- the largest speed of a sheet that keeps its ranges, and its deadline bound or fewer positions, are in range
-pub ranges-of : {s : Counted} {largest D : ℕ} → Ranged s → largest ≡ M s → D ≤ s .bound → Ranges largest D
+pub ranges-of : {s : View} {largest D : ℕ} → Ranged s → largest ≡ M s → D ≤ s .bound → Ranges largest D
 ranges-of {s = s} r e h =
     record {
       speed-low = omega (arith, M-low s r);

@@ -5,15 +5,15 @@ use mathlib.Core.List.{List}
 use native.Mathlib.Nat.{suc-ne-zero}
 use borrow.Author.Tests.{le-leb, lt-leb}
 use lib.ListN.{length}
-use Rattle.model.specs.Counted.{Counted, sheetOf, counted, inMemory, zeroSheet}
-use Rattle.model.specs.Reading.{Answer, value, refused, Reader, _>>=_, _>>_, done, test, refuse, field, ended, readSpeedTable, readJobTable, judged, readCounted, readAnswer, read}
+use Rattle.model.specs.View.{View, viewWith, viewOf, inMemory, zeroSheet}
+use Rattle.model.specs.Reading.{Answer, value, refused, Reader, _>>=_, _>>_, done, test, refuse, field, ended, readSpeedTable, readJobTable, judged, readView, readAnswer, read}
 use Rattle.model.specs.Refusal.{boundRight, horizonRight, fieldsRefusal, limitsRefusal, N, valueLimit}
 use Rattle.model.specs.declared.Job.{Job}
 use Rattle.model.specs.declared.Sheet.{Sheet}
 use Rattle.model.specs.declared.Speed.{Speed}
 use Rattle.laws.proofs.Readers.{bind-value, bind-refused, after-value, after-refused, test-passes, test-fails, value-same, refused-no-value}
 use Rattle.model.proofs.Refusal.{ranged}
-use Rattle.laws.proofs.RoundTrip.{counted-in-memory}
+use Rattle.laws.proofs.RoundTrip.{view-in-memory}
 use Rattle.fields.specs.Answers.{refusalNumber}
 use Rattle.tables.specs.Answers.{tableAnswer, inMemoryAs, speedPlaces, jobPlaces}
 use Rattle.reader.specs.Answers.{sheetGiven}
@@ -23,33 +23,33 @@ use Rattle.tables.proofs.Steps.{Tests}
 -- what is left to read, after each stage
 
 -- after the table of jobs
-unfoldable pub atEnd : ℕ → List Speed → ℕ → List Job → Reader Counted
+unfoldable pub atEnd : ℕ → List Speed → ℕ → List Job → Reader View
 atEnd D speeds T jobs = do
   ended
-  judged N (sheetOf D speeds T jobs)
+  judged N (viewWith D speeds T jobs)
 
 -- after the horizon
-unfoldable pub fromJobs : ℕ → List Speed → ℕ → Reader Counted
+unfoldable pub fromJobs : ℕ → List Speed → ℕ → Reader View
 fromJobs D speeds T = do
   jobs ← readJobTable D
   atEnd D speeds T jobs
 
 -- after the table of speeds
-unfoldable pub fromHorizon : ℕ → List Speed → Reader Counted
+unfoldable pub fromHorizon : ℕ → List Speed → Reader View
 fromHorizon D speeds = do
   T ← field
   test (horizonRight T) 7
   fromJobs D speeds T
 
 -- after the deadline bound
-unfoldable pub fromSpeeds : ℕ → Reader Counted
+unfoldable pub fromSpeeds : ℕ → Reader View
 fromSpeeds D = do
   speeds ← readSpeedTable
   fromHorizon D speeds
 
 -- a read begins with the deadline bound
-pub at-bound : Tests (readCounted N) boundRight 4 fromSpeeds
-unfolding readCounted fromSpeeds fromHorizon fromJobs atEnd
+pub at-bound : Tests (readView N) boundRight 4 fromSpeeds
+unfolding readView fromSpeeds fromHorizon fromJobs atEnd
 at-bound = record { is = refl }
 
 -- the table of speeds follows
@@ -82,40 +82,40 @@ jobs-come D speeds T bytes at e = bind-value (readJobTable D) (atEnd D speeds T)
 
 -- the answers of a read: refused, and judged
 
-pub read-refused : (bytes : List ℕ) {k number : ℕ} {sheet : Sheet} → readCounted N bytes 0 ≡ refused k → number ≡ k → sheet ≡ zeroSheet →
+pub read-refused : (bytes : List ℕ) {k number : ℕ} {sheet : Sheet} → readView N bytes 0 ≡ refused k → number ≡ k → sheet ≡ zeroSheet →
     IsRead bytes number sheet
 unfolding read
 read-refused bytes e n z =
-    record { number-is = n ∙ sym (ap (λ (r : Answer Counted). readAnswer r .number) e); sheet-is = z ∙ sym (ap (λ (r : Answer Counted). readAnswer r .sheet) e) }
+    record { number-is = n ∙ sym (ap (λ (r : Answer View). readAnswer r .number) e); sheet-is = z ∙ sym (ap (λ (r : Answer View). readAnswer r .sheet) e) }
 
 -- what is left at the end: 3, then 9 and 10
 
 pub bytes-follow : (bytes : List ℕ) (at D T : ℕ) (speeds : List Speed) (jobs : List Job) → at < length bytes →
     atEnd D speeds T jobs bytes at ≡ refused 3
 unfolding atEnd
-bytes-follow bytes at D T speeds jobs h = after-refused ended (judged N (sheetOf D speeds T jobs)) bytes at (test-fails _ 3 bytes at (lt-leb (length bytes) at h))
+bytes-follow bytes at D T speeds jobs h = after-refused ended (judged N (viewWith D speeds T jobs)) bytes at (test-fails _ 3 bytes at (lt-leb (length bytes) at h))
 
 -- 9 and 10 of a sheet by their number
 
-judged-by : (s : Counted) (bytes : List ℕ) (at k : ℕ) → k ≡ limitsRefusal valueLimit (N s) s → judged N s bytes at ≡ _>>_ (refuse k) (done s) bytes at
+judged-by : (s : View) (bytes : List ℕ) (at k : ℕ) → k ≡ limitsRefusal valueLimit (N s) s → judged N s bytes at ≡ _>>_ (refuse k) (done s) bytes at
 unfolding judged
 judged-by s bytes at k e = ap (λ (n : ℕ). _>>_ (refuse n) (done s) bytes at) (sym e)
 
 -- the sheet is given where the number is 0, and is all zero else
-given-by : (bytes : List ℕ) (at : ℕ) (s : Counted) {memory sheet : Sheet} (k : ℕ) → memory ≡ inMemory s → sheet ≡ sheetGiven k memory →
-    readCounted N bytes 0 ≡ _>>_ (refuse k) (done s) bytes at → IsRead bytes k sheet
+given-by : (bytes : List ℕ) (at : ℕ) (s : View) {memory sheet : Sheet} (k : ℕ) → memory ≡ inMemory s → sheet ≡ sheetGiven k memory →
+    readView N bytes 0 ≡ _>>_ (refuse k) (done s) bytes at → IsRead bytes k sheet
 unfolding read
 given-by bytes at s zero m g e =
-    record { number-is = sym (ap (λ (r : Answer Counted). readAnswer r .number) e); sheet-is = g ∙ m ∙ sym (ap (λ (r : Answer Counted). readAnswer r .sheet) e) }
+    record { number-is = sym (ap (λ (r : Answer View). readAnswer r .number) e); sheet-is = g ∙ m ∙ sym (ap (λ (r : Answer View). readAnswer r .sheet) e) }
 given-by bytes at s (suc k) m g e = read-refused bytes e refl g
 
 pub read-judged : (bytes : List ℕ) (at D T : ℕ) (speeds : List Speed) (jobs : List Job) {number : ℕ} {memory sheet : Sheet} →
-    readCounted N bytes 0 ≡ atEnd D speeds T jobs bytes at → length bytes ≤ at →
-    number ≡ limitsRefusal valueLimit (N (sheetOf D speeds T jobs)) (sheetOf D speeds T jobs) →
-    memory ≡ inMemory (sheetOf D speeds T jobs) → sheet ≡ sheetGiven number memory → IsRead bytes number sheet
+    readView N bytes 0 ≡ atEnd D speeds T jobs bytes at → length bytes ≤ at →
+    number ≡ limitsRefusal valueLimit (N (viewWith D speeds T jobs)) (viewWith D speeds T jobs) →
+    memory ≡ inMemory (viewWith D speeds T jobs) → sheet ≡ sheetGiven number memory → IsRead bytes number sheet
 unfolding atEnd
 read-judged bytes at D T speeds jobs {number = number} e h n m g =
-    let s = sheetOf D speeds T jobs in
+    let s = viewWith D speeds T jobs in
     let ending = after-value ended (judged N s) bytes at (test-passes _ 3 bytes at (le-leb (length bytes) at h)) in
     given-by bytes at s number m g (e ∙ ending ∙ judged-by s bytes at number n)
 
@@ -148,17 +148,17 @@ memoryOf D speeds T jobs =
     record { bound = D; «speed_count» = speeds .0; speeds = speeds .1; horizon = T; «job_count» = jobs .0; jobs = jobs .1 }
 
 pub memory-is : (D T : ℕ) (speeds : List Speed) (jobs : List Job) {p : ℕ × List Speed} {q : ℕ × List Job} →
-    speedPlaces speeds ≡ p → jobPlaces jobs ≡ q → memoryOf D p T q ≡ inMemory (sheetOf D speeds T jobs)
+    speedPlaces speeds ≡ p → jobPlaces jobs ≡ q → memoryOf D p T q ≡ inMemory (viewWith D speeds T jobs)
 memory-is D T speeds jobs {p = p} e d =
     sym (ap (λ (x : ℕ × List Speed). memoryOf D x T (jobPlaces jobs)) e ∙ ap (λ (y : ℕ × List Job). memoryOf D p T y) d)
 
 -- and the places of it that count are those that were read
-pub memory-counts : (D T : ℕ) (speeds : List Speed) (jobs : List Job) {memory : Sheet} → fieldsRefusal (sheetOf D speeds T jobs) ≡ 0 →
-    memory ≡ inMemory (sheetOf D speeds T jobs) → counted memory ≡ sheetOf D speeds T jobs
+pub memory-counts : (D T : ℕ) (speeds : List Speed) (jobs : List Job) {memory : Sheet} → fieldsRefusal (viewWith D speeds T jobs) ≡ 0 →
+    memory ≡ inMemory (viewWith D speeds T jobs) → viewOf memory ≡ viewWith D speeds T jobs
 memory-counts D T speeds jobs e m =
-    let s = sheetOf D speeds T jobs in
+    let s = viewWith D speeds T jobs in
     let right = ranged s e in
-    ap counted m ∙ counted-in-memory s (record { speeds-counted = refl; jobs-counted = refl }) (right .speeds-high) (right .jobs-high)
+    ap viewOf m ∙ view-in-memory s (record { speeds-counted = refl; jobs-counted = refl }) (right .speeds-high) (right .jobs-high)
 
 -- a sheet that is zero but for these tables
 abbrev pub zeroWith : List Speed → List Job → Sheet

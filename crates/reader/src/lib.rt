@@ -17,7 +17,7 @@ use tables::zero_speeds;
 ghost use mathlib.Core.Path.{_≡_};
 ghost use Rattle.reader.specs.Calls.{IsRead};
 ghost use Rattle.reader.specs.Answers.{sheetGiven};
-ghost use Rattle.model.specs.Counted.{counted, zeroSheet};
+ghost use Rattle.model.specs.View.{viewOf, zeroSheet};
 ghost use Rattle.model.specs.Refusal.{fieldsRefusal, limitsRefusal, N, valueLimit};
 
 // The number 0 with the sheet, or a refusal's number with an all-zero sheet.
@@ -45,8 +45,8 @@ fn refused(number: u32) -> ReadSheet
 
 // 9 and 10 of what was read.
 fn judged(sheet: Sheet) -> ReadSheet
-    requires { ⌜ fieldsRefusal (counted sheet) ≡ 0 ⌝ }
-    ensures { λ r. ⌜ (r .number ≡ limitsRefusal valueLimit (N (counted sheet)) (counted sheet)) × (r .sheet ≡ sheetGiven (r .number) sheet) ⌝ }
+    requires { ⌜ fieldsRefusal (viewOf sheet) ≡ 0 ⌝ }
+    ensures { λ r. ⌜ (r .number ≡ limitsRefusal valueLimit (N (viewOf sheet)) (viewOf sheet)) × (r .sheet ≡ sheetGiven (r .number) sheet) ⌝ }
 {
     let counts = table();
     let number = limits_refusal(&counts, sheet);

@@ -2,7 +2,7 @@
 use Prim.Native.Nat.{ℕ, pred, _-_}
 use mathlib.Core.Path.{_≡_, sym, ap, _∙_}
 use native.Mathlib.Omega.{arith}
-use Rattle.model.specs.Counted.{Counted, M}
+use Rattle.model.specs.View.{View, M}
 use Rattle.model.specs.Queue.{queueCount}
 use Rattle.model.proofs.Refusal.{Ranged, Accepted, N-is}
 use Rattle.queues.specs.Order.{Ranges}
@@ -19,16 +19,16 @@ pub one-fewer : (D : ℕ) → D - 1 ≡ pred D
 one-fewer D = omega arith
 
 -- what is said of the sizes of a sheet is said of its M and D
-pub sized-same : {s : Counted} {sizes : Sizes} {A : Type 0} → Sized s sizes → (f : ℕ → ℕ → A) → f (sizes .largest) (sizes .bound) ≡ f (M s)
+pub sized-same : {s : View} {sizes : Sizes} {A : Type 0} → Sized s sizes → (f : ℕ → ℕ → A) → f (sizes .largest) (sizes .bound) ≡ f (M s)
     (s .bound)
 sized-same {s} {sizes} z f = ap (λ (m : ℕ). f m (sizes .bound)) (z .largest-is) ∙ ap (f (M s)) (z .bound-is)
 
 -- M and D are in range where the sheet's fields are
-pub sized-ranges : {s : Counted} {sizes : Sizes} → Ranged s → Sized s sizes → Ranges (sizes .largest) (sizes .bound)
+pub sized-ranges : {s : View} {sizes : Sizes} → Ranged s → Sized s sizes → Ranges (sizes .largest) (sizes .bound)
 sized-ranges r z = ranges-of r (z .largest-is) (omega (arith, z .bound-is))
 
 -- the sizes of an accepted sheet are measured
-pub measured : (s : Counted) (sizes : Sizes) {limit : ℕ} → Accepted limit s → Sized s sizes → Measured sizes
+pub measured : (s : View) (sizes : Sizes) {limit : ℕ} → Accepted limit s → Sized s sizes → Measured sizes
 measured s sizes a z =
     record {
       ranges = sized-ranges (a .ranged) z;

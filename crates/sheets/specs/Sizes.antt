@@ -1,14 +1,14 @@
 -- What is worked out once for a sheet, and what the passes over its rows need of it.
 use Prim.Native.Nat.{pred, _≤_}
 use mathlib.Core.Path.{_≡_}
-use Rattle.model.specs.Counted.{Counted, M, greatestEnergy}
+use Rattle.model.specs.View.{View, M, greatestEnergy}
 use Rattle.model.specs.Queue.{queueCount}
 use Rattle.model.specs.Refusal.{N}
 use Rattle.queues.specs.Order.{Ranges}
 use Rattle.sheets.specs.declared.sizes.Sizes.{Sizes}
 
 -- of a sheet: M, the greatest energy, D, N, how many queues there are after a slot, and how many blocks those come in
-pub record Sized (s : Counted) (sizes : Sizes) : Type 0 where
+pub record Sized (s : View) (sizes : Sizes) : Type 0 where
   pub largest-is : sizes .largest ≡ M s
   pub energy-is : sizes .energy ≡ greatestEnergy s
   pub bound-is : sizes .bound ≡ s .bound

@@ -9,14 +9,14 @@ use ranges::refusal_of_speed;
 use ranges::speed_count_right;
 ghost use mathlib.Core.Path.{_≡_};
 ghost use Prim.Native.Nat.{_≤_, _<_};
-ghost use Rattle.model.specs.Counted.{counted};
+ghost use Rattle.model.specs.View.{viewOf};
 ghost use Rattle.model.specs.Refusal.{speedRefusalAt, jobRefusalAt, speedsRefusal, jobsRefusal, fieldsRefusal, sheetRefusal, valueLimit};
 ghost use Rattle.counts.specs.Counts.{HoldsCounts};
 
 // The number of the speed at a place.
 fn refusal_at_speed(sheet: Sheet, place: u32) -> u32
     requires { ⌜ (place < sheet .«speed_count») × (sheet .«speed_count» ≤ 9) ⌝ }
-    ensures { λ r. ⌜ r ≡ speedRefusalAt (counted sheet) place ⌝ }
+    ensures { λ r. ⌜ r ≡ speedRefusalAt (viewOf sheet) place ⌝ }
 {
     let one = sheet.speeds[place as usize];
     if place == 0 {
@@ -29,7 +29,7 @@ fn refusal_at_speed(sheet: Sheet, place: u32) -> u32
 // The number of the speeds: 0, or that of the first that is refused.
 fn speeds_refusal(sheet: Sheet) -> u32
     requires { ⌜ sheet .«speed_count» ≤ 9 ⌝ }
-    ensures { λ r. ⌜ r ≡ speedsRefusal (counted sheet) (sheet .«speed_count») ⌝ }
+    ensures { λ r. ⌜ r ≡ speedsRefusal (viewOf sheet) (sheet .«speed_count») ⌝ }
 {
     let mut place = 0;
     while place < sheet.speed_count {
@@ -45,7 +45,7 @@ fn speeds_refusal(sheet: Sheet) -> u32
 // The number of the job at a place.
 fn refusal_at_job(sheet: Sheet, place: u32) -> u32
     requires { ⌜ (place < sheet .«job_count») × (sheet .«job_count» ≤ 32) ⌝ }
-    ensures { λ r. ⌜ r ≡ jobRefusalAt (counted sheet) place ⌝ }
+    ensures { λ r. ⌜ r ≡ jobRefusalAt (viewOf sheet) place ⌝ }
 {
     let one = sheet.jobs[place as usize];
     refusal_of_job(sheet.bound, one)
@@ -54,7 +54,7 @@ fn refusal_at_job(sheet: Sheet, place: u32) -> u32
 // The number of the jobs: 0, or that of the first that is refused.
 fn jobs_refusal(sheet: Sheet) -> u32
     requires { ⌜ sheet .«job_count» ≤ 32 ⌝ }
-    ensures { λ r. ⌜ r ≡ jobsRefusal (counted sheet) (sheet .«job_count») ⌝ }
+    ensures { λ r. ⌜ r ≡ jobsRefusal (viewOf sheet) (sheet .«job_count») ⌝ }
 {
     let mut place = 0;
     while place < sheet.job_count {
@@ -69,7 +69,7 @@ fn jobs_refusal(sheet: Sheet) -> u32
 
 // 4 to 8, the range of each field.
 fn fields_refusal(sheet: Sheet) -> u32
-    ensures { λ r. ⌜ r ≡ fieldsRefusal (counted sheet) ⌝ }
+    ensures { λ r. ⌜ r ≡ fieldsRefusal (viewOf sheet) ⌝ }
 {
     if !bound_right(sheet.bound) {
         return 4;
@@ -93,7 +93,7 @@ fn fields_refusal(sheet: Sheet) -> u32
 // The number of a sheet in memory, whatever stands in it.
 pub fn sheet_refusal(counts: &[u32; 2352], sheet: Sheet) -> u32
     requires { ⌜ HoldsCounts (now counts) ⌝ }
-    ensures { λ r. ⌜ r ≡ sheetRefusal valueLimit (counted sheet) ⌝ }
+    ensures { λ r. ⌜ r ≡ sheetRefusal valueLimit (viewOf sheet) ⌝ }
 {
     let fields = fields_refusal(sheet);
     if fields != 0 {

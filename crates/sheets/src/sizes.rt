@@ -4,7 +4,7 @@ use model::Sheet;
 use queues::queue_count;
 ghost use mathlib.Core.Path.{_≡_};
 ghost use Prim.Native.Nat.{pred};
-ghost use Rattle.model.specs.Counted.{counted};
+ghost use Rattle.model.specs.View.{viewOf};
 ghost use Rattle.model.specs.Refusal.{fieldsRefusal};
 ghost use Rattle.counts.specs.Counts.{HoldsCounts};
 ghost use Rattle.sheets.specs.Sizes.{Sized};
@@ -33,8 +33,8 @@ pub fn one_fewer(positions: usize) -> usize
 
 // The sizes of a sheet.
 pub fn sizes_of(counts: &[u32; 2352], sheet: Sheet) -> Sizes
-    requires { ⌜ HoldsCounts (now counts) × (fieldsRefusal (counted sheet) ≡ 0) ⌝ }
-    ensures { λ r. ⌜ Sized (counted sheet) r ⌝ }
+    requires { ⌜ HoldsCounts (now counts) × (fieldsRefusal (viewOf sheet) ≡ 0) ⌝ }
+    ensures { λ r. ⌜ Sized (viewOf sheet) r ⌝ }
 {
     let greatest = greatest_of(sheet);
     let largest = greatest.speed;

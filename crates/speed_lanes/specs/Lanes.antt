@@ -6,7 +6,7 @@ use mathlib.Core.Path.{_≡_}
 use mathlib.Core.Bool.{Bool, false, cond, _&&_}
 use mathlib.Core.List.{List}
 use lib.Dec.{T, leb}
-use Rattle.model.specs.Counted.{Counted, speedAt, energyAt}
+use Rattle.model.specs.View.{View, speedAt, energyAt}
 use Rattle.model.specs.Queue.{Queue, total, queueIn, bearable, queueCount, numberOf, run}
 use Rattle.model.specs.Tests.{firstPlace}
 use Rattle.queues.specs.Blocks.{firstOf, startOf, lowestOf}
@@ -21,7 +21,7 @@ abbrev pub leadsOn : ℕ → ℕ → Queue → ℕ → Bool
 leadsOn M D w speed = leb (total w 1) speed && bearable M (afterOf D w speed)
 
 -- the place of the slowest speed of the sheet that leads on: every faster one does then
-abbrev pub slowestIn : ℕ → ℕ → Counted → Queue → ℕ
+abbrev pub slowestIn : ℕ → ℕ → View → Queue → ℕ
 slowestIn M D s w = firstPlace (λ j. leadsOn M D w (speedAt s j)) (s .speedCount)
 
 -- where the lane of a speed begins from a queue on: the number of the queue after the slot
@@ -29,12 +29,12 @@ abbrev pub laneOf : ℕ → ℕ → Queue → ℕ → ℕ
 laneOf M D w speed = cond (leadsOn M D w speed) (numberOf M (afterOf D w speed)) 0
 
 -- the line of block b
-abbrev pub speedLine : ℕ → ℕ → Counted → ℕ → ℕ → ℕ
+abbrev pub speedLine : ℕ → ℕ → View → ℕ → ℕ → ℕ
 speedLine M D s b =
     lineOf (startOf M D b) (lowestOf M D b) (slowestIn M D s (firstOf M D b)) (λ j. laneOf M D (firstOf M D b) (speedAt s j))
 
 -- the table: the speeds and their energies, of which a sheet has at most nine, and a line for each block
-abbrev pub SpeedTable : ℕ → ℕ → Counted → List ℕ → Type 0
+abbrev pub SpeedTable : ℕ → ℕ → View → List ℕ → Type 0
 SpeedTable M D s l = Table 9 (s .speedCount) (queueCount M (pred D)) (speedAt s) (energyAt s) (speedLine M D s) l
 
 -- what a lane says of a queue w of its block. It ends where (D-1) times M and the speed do: before that the speed leads on, and the queue

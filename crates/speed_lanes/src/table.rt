@@ -13,7 +13,7 @@ use slot::bearable;
 ghost use mathlib.Core.Path.{_≡_};
 ghost use Prim.Native.Nat.{_+_, _≤_, _<_};
 ghost use lib.ListN.{length};
-ghost use Rattle.model.specs.Counted.{counted, speedAt, energyAt};
+ghost use Rattle.model.specs.View.{viewOf, speedAt, energyAt};
 ghost use Rattle.model.specs.Queue.{queueIn};
 ghost use Rattle.model.specs.Refusal.{fieldsRefusal};
 ghost use Rattle.counts.specs.Counts.{HoldsCounts};
@@ -36,8 +36,8 @@ fn leads_on(sizes: Sizes, queue: [u32; 6], speed: u32) -> bool
 
 // The place of the slowest speed that leads on; the count of speeds where none does.
 fn slowest(sheet: Sheet, sizes: Sizes, queue: [u32; 6]) -> u32
-    requires { ⌜ Measured sizes × (fieldsRefusal (counted sheet) ≡ 0) ⌝ }
-    ensures { λ r. ⌜ r ≡ slowestIn (sizes .largest) (sizes .bound) (counted sheet) (queueIn (sizes .bound) queue) ⌝ }
+    requires { ⌜ Measured sizes × (fieldsRefusal (viewOf sheet) ≡ 0) ⌝ }
+    ensures { λ r. ⌜ r ≡ slowestIn (sizes .largest) (sizes .bound) (viewOf sheet) (queueIn (sizes .bound) queue) ⌝ }
 {
     let mut place = 0;
     while place < sheet.speed_count {
@@ -71,10 +71,10 @@ fn put_lanes(
     at: usize,
     lanes: &mut [u32],
 )
-    requires { ⌜ HoldsCounts (now counts) × Measured sizes × (fieldsRefusal (counted sheet) ≡ 0) ×
+    requires { ⌜ HoldsCounts (now counts) × Measured sizes × (fieldsRefusal (viewOf sheet) ≡ 0) ×
         (at + sheet .«speed_count» ≤ length (now lanes)) ⌝ }
     ensures { λ r. ⌜ Fills 1 numberAt
-        (λ j. laneOf (sizes .largest) (sizes .bound) (queueIn (sizes .bound) queue) (speedAt (counted sheet) j))
+        (λ j. laneOf (sizes .largest) (sizes .bound) (queueIn (sizes .bound) queue) (speedAt (viewOf sheet) j))
         at (sheet .«speed_count») (now (lanes .entry)) (now (lanes .exit)) ⌝ }
 {
     let mut place = 0;
@@ -87,9 +87,9 @@ fn put_lanes(
 
 // The line of one block.
 fn put_line(counts: &[u32; 2352], sheet: Sheet, sizes: Sizes, block: usize, lanes: &mut [u32])
-    requires { ⌜ HoldsCounts (now counts) × Measured sizes × (fieldsRefusal (counted sheet) ≡ 0) × (block < sizes .after) ×
+    requires { ⌜ HoldsCounts (now counts) × Measured sizes × (fieldsRefusal (viewOf sheet) ≡ 0) × (block < sizes .after) ×
         (lineAt 9 (sheet .«speed_count») (sizes .after) ≤ length (now lanes)) ⌝ }
-    ensures { λ r. ⌜ Fills 1 numberAt (speedLine (sizes .largest) (sizes .bound) (counted sheet) block)
+    ensures { λ r. ⌜ Fills 1 numberAt (speedLine (sizes .largest) (sizes .bound) (viewOf sheet) block)
         (lineAt 9 (sheet .«speed_count») block) (sheet .«speed_count» + 3) (now (lanes .entry)) (now (lanes .exit)) ⌝ }
 {
     let queue = first_queue(counts, sizes.largest, sizes.bound, block);
@@ -107,9 +107,9 @@ fn put_line(counts: &[u32; 2352], sheet: Sheet, sizes: Sizes, block: usize, lane
 
 // The lines of all blocks.
 fn fill_lines(counts: &[u32; 2352], sheet: Sheet, sizes: Sizes, lanes: &mut [u32])
-    requires { ⌜ HoldsCounts (now counts) × Measured sizes × (fieldsRefusal (counted sheet) ≡ 0) ×
+    requires { ⌜ HoldsCounts (now counts) × Measured sizes × (fieldsRefusal (viewOf sheet) ≡ 0) ×
         (lineAt 9 (sheet .«speed_count») (sizes .after) ≤ length (now lanes)) ⌝ }
-    ensures { λ r. ⌜ LinesPut 9 (sheet .«speed_count») (sizes .after) (speedLine (sizes .largest) (sizes .bound) (counted sheet))
+    ensures { λ r. ⌜ LinesPut 9 (sheet .«speed_count») (sizes .after) (speedLine (sizes .largest) (sizes .bound) (viewOf sheet))
         (now (lanes .entry)) (now (lanes .exit)) ⌝ }
 {
     let mut block = 0;
@@ -121,8 +121,8 @@ fn fill_lines(counts: &[u32; 2352], sheet: Sheet, sizes: Sizes, lanes: &mut [u32
 
 // The speeds and their energies.
 fn fill_speeds(sheet: Sheet, lanes: &mut [u32])
-    requires { ⌜ (fieldsRefusal (counted sheet) ≡ 0) × (18 ≤ length (now lanes)) ⌝ }
-    ensures { λ r. ⌜ Columns 9 (sheet .«speed_count») (speedAt (counted sheet)) (energyAt (counted sheet)) (now (lanes .exit)) ⌝ }
+    requires { ⌜ (fieldsRefusal (viewOf sheet) ≡ 0) × (18 ≤ length (now lanes)) ⌝ }
+    ensures { λ r. ⌜ Columns 9 (sheet .«speed_count») (speedAt (viewOf sheet)) (energyAt (viewOf sheet)) (now (lanes .exit)) ⌝ }
 {
     let mut place = 0;
     while place < sheet.speed_count {
@@ -134,9 +134,9 @@ fn fill_speeds(sheet: Sheet, lanes: &mut [u32])
 
 // The whole table.
 pub fn fill_table(counts: &[u32; 2352], sheet: Sheet, sizes: Sizes, lanes: &mut [u32])
-    requires { ⌜ HoldsCounts (now counts) × Measured sizes × (fieldsRefusal (counted sheet) ≡ 0) ×
+    requires { ⌜ HoldsCounts (now counts) × Measured sizes × (fieldsRefusal (viewOf sheet) ≡ 0) ×
         (lineAt 9 (sheet .«speed_count») (sizes .after) ≤ length (now lanes)) ⌝ }
-    ensures { λ r. ⌜ SpeedTable (sizes .largest) (sizes .bound) (counted sheet) (now (lanes .exit)) ⌝ }
+    ensures { λ r. ⌜ SpeedTable (sizes .largest) (sizes .bound) (viewOf sheet) (now (lanes .exit)) ⌝ }
 {
     fill_speeds(sheet, lanes);
     fill_lines(counts, sheet, sizes, lanes);

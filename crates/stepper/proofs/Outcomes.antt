@@ -8,7 +8,7 @@ use borrow.Author.Tests.{le-leb, lt-leb, ne-eqb}
 use lib.Dec.{leb, eqb}
 use Rattle.laws.proofs.Stepper.{speed-by, moved-by, advance-by, advance-refusal-next}
 use Rattle.model.proofs.Tests.{check-true, check-false, then-passes, then-fails}
-use Rattle.model.specs.Counted.{Counted, energyOf, M}
+use Rattle.model.specs.View.{View, energyOf, M}
 use Rattle.model.specs.Queue.{queueIn, placesOf, bearable, oneSlot}
 use Rattle.model.specs.Tests.{_then_}
 use Rattle.model.specs.Stepper as model
@@ -30,7 +30,7 @@ pub refused-gives : {A : Type 0} {number : ℕ} (done refused : A) → (number �
 refused-gives {number = number} done refused some = sym (ap (λ (b : Bool). cond b done refused) (ne-eqb number 0 some))
 
 -- a speed call that is refused answers the number and 0
-pub told-refused : (s : Counted) (plan : List ℕ) (x : model.State) {refusal number speed : ℕ} → model.speedRefusal s plan x ≡ refusal →
+pub told-refused : (s : View) (plan : List ℕ) (x : model.State) {refusal number speed : ℕ} → model.speedRefusal s plan x ≡ refusal →
     (refusal ≡ 0 → ⊥) → (number ≡ refusal) × (speed ≡ 0) → IsTold (model.speed s plan x) number speed
 told-refused s plan x e some answer =
     let said = speed-by s plan x e in
@@ -40,7 +40,7 @@ told-refused s plan x e some answer =
     }
 
 -- one that is not refused answers 0 and the plan byte
-pub told-done : (s : Counted) (plan : List ℕ) (x : model.State) {speed : ℕ} → model.speedRefusal s plan x ≡ 0 →
+pub told-done : (s : View) (plan : List ℕ) (x : model.State) {speed : ℕ} → model.speedRefusal s plan x ≡ 0 →
     speed ≡ model.planByte s plan x → IsTold (model.speed s plan x) 0 speed
 told-done s plan x e same =
     let said = speed-by s plan x e in
@@ -48,7 +48,7 @@ told-done s plan x e same =
 
 -- what is left of an advance
 
-module _ (s : Counted) (x : model.State) (speed size deadline : ℕ) where
+module _ (s : View) (x : model.State) (speed size deadline : ℕ) where
   abbrev next : model.State
   next = model.moved s x speed size deadline
 

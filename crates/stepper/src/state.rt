@@ -11,7 +11,7 @@ use sheets::sheet_refusal;
 use sheets::sizes_of;
 use slot::bearable_in;
 ghost use mathlib.Core.Path.{_≡_};
-ghost use Rattle.model.specs.Counted.{counted};
+ghost use Rattle.model.specs.View.{viewOf};
 ghost use Rattle.model.specs.Stepper.{zeroState, start, speed, advance};
 ghost use Rattle.counts.specs.Counts.{HoldsCounts};
 ghost use Rattle.stepper.specs.Calls.{stateOf, IsStepped, IsTold};
@@ -39,7 +39,7 @@ impl State {
     // Begins a run from the state's queue, at slot 0 and with no energy spent; the slot and energy that it had are not looked at. A
     // refused start gives an all-zero state.
     pub fn start(self, sheet: Sheet) -> Stepped
-        ensures { λ r. ⌜ IsStepped (start (counted sheet) (stateOf self)) (r .number) (r .state) ⌝ }
+        ensures { λ r. ⌜ IsStepped (start (viewOf sheet) (stateOf self)) (r .number) (r .state) ⌝ }
     {
         let counts = table();
         let number = sheet_refusal(&counts, sheet);
@@ -69,7 +69,7 @@ impl State {
 
     // The speed of the slot that begins: the plan byte at the state's slot and queue number. A refused speed is 0.
     pub fn speed(self, sheet: Sheet, plan: &[u8]) -> Told
-        ensures { λ r. ⌜ IsTold (speed (counted sheet) (now (plan .entry)) (stateOf self)) (r .number) (r .speed) ⌝ }
+        ensures { λ r. ⌜ IsTold (speed (viewOf sheet) (now (plan .entry)) (stateOf self)) (r .number) (r .speed) ⌝ }
     {
         let counts = table();
         speed_of(&counts, sheet, plan, self)
@@ -77,7 +77,7 @@ impl State {
 
     // Runs the slot at the plan's speed and then takes the arrival. A refused advance hands back the state that it got.
     pub fn advance(self, sheet: Sheet, plan: &[u8], size: u32, deadline: u32) -> Stepped
-        ensures { λ r. ⌜ IsStepped (advance (counted sheet) (now (plan .entry)) (stateOf self) size deadline) (r .number) (r .state) ⌝ }
+        ensures { λ r. ⌜ IsStepped (advance (viewOf sheet) (now (plan .entry)) (stateOf self) size deadline) (r .number) (r .state) ⌝ }
     {
         let counts = table();
         let told = speed_of(&counts, sheet, plan, self);
@@ -112,7 +112,7 @@ fn zero_state() -> State
 // The speed of the slot that begins, behind the tests that both calls make of it: 4 to 10, 11, 13, 14 and 16.
 fn speed_of(counts: &[u32; 2352], sheet: Sheet, plan: &[u8], state: State) -> Told
     requires { ⌜ HoldsCounts (now counts) ⌝ }
-    ensures { λ r. ⌜ IsTold (speed (counted sheet) (now (plan .entry)) (stateOf state)) (r .number) (r .speed) ⌝ }
+    ensures { λ r. ⌜ IsTold (speed (viewOf sheet) (now (plan .entry)) (stateOf state)) (r .number) (r .speed) ⌝ }
 {
     let number = row_refusal(counts, sheet, plan.len());
     if number != 0 {

@@ -9,7 +9,7 @@ use slot::one_slot;
 ghost use mathlib.Core.Path.{_≡_};
 ghost use Prim.Native.Nat.{_≤_};
 ghost use lib.Dec.{T};
-ghost use Rattle.model.specs.Counted.{counted, onSheet};
+ghost use Rattle.model.specs.View.{viewOf, onSheet};
 ghost use Rattle.model.specs.Refusal.{fieldsRefusal};
 ghost use Rattle.model.specs.Stepper.{stateRight};
 ghost use Rattle.sheets.specs.Sizes.{Sized};
@@ -28,9 +28,9 @@ pub fn moved(
     size: u32,
     deadline: u32,
 ) -> Stepped
-    requires { ⌜ (fieldsRefusal (counted sheet) ≡ 0) × Sized (counted sheet) sizes × T (stateRight (counted sheet) (stateOf state)) ×
-        T (onSheet (counted sheet) speed) × (size ≤ 255) ⌝ }
-    ensures { λ r. ⌜ IsStepped (movedOrRefused (counted sheet) (stateOf state) speed size deadline) (r .number) (r .state) ⌝ }
+    requires { ⌜ (fieldsRefusal (viewOf sheet) ≡ 0) × Sized (viewOf sheet) sizes × T (stateRight (viewOf sheet) (stateOf state)) ×
+        T (onSheet (viewOf sheet) speed) × (size ≤ 255) ⌝ }
+    ensures { λ r. ⌜ IsStepped (movedOrRefused (viewOf sheet) (stateOf state) speed size deadline) (r .number) (r .state) ⌝ }
 {
     let waiting = state.queue;
     let queue = one_slot(sizes.bound, waiting, speed, size, deadline);

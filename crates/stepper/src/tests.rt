@@ -5,7 +5,7 @@ use model::Sheet;
 use sheets::Sizes;
 use slot::bearable_in;
 ghost use mathlib.Core.Path.{_≡_};
-ghost use Rattle.model.specs.Counted.{counted};
+ghost use Rattle.model.specs.View.{viewOf};
 ghost use Rattle.model.specs.Refusal.{fieldsRefusal};
 ghost use Rattle.model.specs.Stepper.{stateRight, byteRight};
 ghost use Rattle.sheets.specs.Sizes.{Sized};
@@ -13,8 +13,8 @@ ghost use Rattle.stepper.specs.Calls.{stateOf};
 
 // 13: the queue is bearable and its unused positions are zero; the slot and the energy are in range.
 pub fn state_right(sheet: Sheet, sizes: Sizes, state: State) -> bool
-    requires { ⌜ (fieldsRefusal (counted sheet) ≡ 0) × Sized (counted sheet) sizes ⌝ }
-    ensures { λ r. ⌜ r ≡ stateRight (counted sheet) (stateOf state) ⌝ }
+    requires { ⌜ (fieldsRefusal (viewOf sheet) ≡ 0) × Sized (viewOf sheet) sizes ⌝ }
+    ensures { λ r. ⌜ r ≡ stateRight (viewOf sheet) (stateOf state) ⌝ }
 {
     let queue = state.queue;
     if !bearable_in(sizes.largest, sizes.bound, queue) {
@@ -30,8 +30,8 @@ pub fn state_right(sheet: Sheet, sizes: Sizes, state: State) -> bool
 
 // 16: the plan byte is a speed of the sheet and not below w(1).
 pub fn byte_right(sheet: Sheet, state: State, byte: u32) -> bool
-    requires { ⌜ fieldsRefusal (counted sheet) ≡ 0 ⌝ }
-    ensures { λ r. ⌜ r ≡ byteRight (counted sheet) (stateOf state) byte ⌝ }
+    requires { ⌜ fieldsRefusal (viewOf sheet) ≡ 0 ⌝ }
+    ensures { λ r. ⌜ r ≡ byteRight (viewOf sheet) (stateOf state) byte ⌝ }
 {
     if sheet.speed_count <= place_of(sheet, byte) {
         return false;

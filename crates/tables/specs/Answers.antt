@@ -3,7 +3,7 @@
 use Prim.Native.Nat.{ℕ, zero, suc}
 use mathlib.Core.List.{List}
 use lib.ListN.{length}
-use Rattle.model.specs.Counted.{zeroSpeed, zeroJob}
+use Rattle.model.specs.View.{zeroSpeed, zeroJob}
 use Rattle.model.specs.Reading.{Answer, value, refused}
 use Rattle.model.specs.Tests.{padded}
 use Rattle.model.specs.declared.Job.{Job}

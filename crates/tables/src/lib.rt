@@ -16,7 +16,7 @@ ghost use Prim.Native.Nat.{_≤_};
 ghost use Rattle.fields.specs.Answers.{refusalNumber};
 ghost use Rattle.tables.specs.Answers.{speedAnswer, jobAnswer, tableAnswer, inMemoryAs, speedPlaces, jobPlaces};
 ghost use lib.ListN.{replicate};
-ghost use Rattle.model.specs.Counted.{zeroSpeed, zeroJob};
+ghost use Rattle.model.specs.View.{zeroSpeed, zeroJob};
 ghost use Rattle.model.specs.Reading.{readSpeed, readSpeeds, readSpeedTable, readJob, readJobs, readJobTable};
 
 // A speed with its energy and the next place, or a refusal's number.

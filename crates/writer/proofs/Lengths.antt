@@ -9,7 +9,7 @@ use lib.ListN.{length, getD, length-append}
 use Rattle.model.proofs.Refusal.{ranged}
 use Rattle.model.proofs.Tests.{turn-times}
 use Rattle.model.specs.Bytes.{codeIn, code, speedBytes, jobBytes, sheetBytes}
-use Rattle.model.specs.Counted.{Counted, zeroSpeed, zeroJob, speedAt, energyAt, weightAt, sizeAt, deadlineAt}
+use Rattle.model.specs.View.{View, zeroSpeed, zeroJob, speedAt, energyAt, weightAt, sizeAt, deadlineAt}
 use Rattle.model.specs.Refusal.{fieldsRefusal}
 use Rattle.writer.specs.Short.{SpeedShort, JobShort}
 
@@ -28,18 +28,18 @@ code-upto : (x : ℕ) → length (code x) ≤ 3
 code-upto x = code-in-upto 3 x
 
 -- n speeds six bytes each
-speeds-upto : (s : Counted) (n : ℕ) → length (speedBytes s n) ≤ n * 6
+speeds-upto : (s : View) (n : ℕ) → length (speedBytes s n) ≤ n * 6
 unfolding speedBytes
 speeds-upto s n = turn-times _ n 6 (λ j h. simp length-append (omega (arith, code-upto (speedAt s j), code-upto (energyAt s j))))
 
 -- n jobs nine bytes each
-jobs-upto : (s : Counted) (n : ℕ) → length (jobBytes s n) ≤ n * 9
+jobs-upto : (s : View) (n : ℕ) → length (jobBytes s n) ≤ n * 9
 unfolding jobBytes
 jobs-upto s n =
     turn-times _ n 9
     (λ i h. simp length-append (omega (arith, code-upto (weightAt s i), code-upto (sizeAt s i), code-upto (deadlineAt s i))))
 
-module _ (s : Counted) (right : fieldsRefusal s ≡ 0) where
+module _ (s : View) (right : fieldsRefusal s ≡ 0) where
   -- nine speeds and 32 jobs at most
   pub sheet-upto : length (sheetBytes s) ≤ 354
   unfolding sheetBytes

@@ -9,26 +9,26 @@ use Rattle.laws.proofs.RoundTrip.{write-fits, write-short}
 use Rattle.model.proofs.Tests.{then-stops}
 use Rattle.laws.proofs.Written.{written-refused}
 use Rattle.model.specs.Bytes.{sheetBytes, writeRefusal, writeLines, write}
-use Rattle.model.specs.Counted.{Counted}
+use Rattle.model.specs.View.{View}
 use Rattle.model.specs.Refusal.{sheetRefusal, valueLimit}
 use Rattle.buffers.proofs.Laid.{laid-next, laid-front, laid-written}
 use Rattle.writer.specs.Calls.{IsWritten}
 use Rattle.buffers.specs.Laid.{Laid}
 
 -- a refusal touches nothing and has the length 0
-refused-with : (s : Counted) (buffer : List ℕ) (number : ℕ) → writeRefusal s (length buffer) ≡ number → (number ≡ 0 → ⊥) →
+refused-with : (s : View) (buffer : List ℕ) (number : ℕ) → writeRefusal s (length buffer) ≡ number → (number ≡ 0 → ⊥) →
     IsWritten s buffer number 0 buffer
 unfolding write
 refused-with s buffer number e some = rw e (written-refused (sheetBytes s) buffer some)
 
 -- the sheet is refused
-pub write-refused : (s : Counted) (buffer : List ℕ) {number : ℕ} → number ≡ sheetRefusal valueLimit s → (number ≡ 0 → ⊥) →
+pub write-refused : (s : View) (buffer : List ℕ) {number : ℕ} → number ≡ sheetRefusal valueLimit s → (number ≡ 0 → ⊥) →
     IsWritten s buffer number 0 buffer
 unfolding writeLines
 write-refused s buffer {number = number} e some = refused-with s buffer number (rw (← e) (then-stops number _ some)) some
 
 -- what is known where the sheet is not refused and its bytes stand in an array of its own, up to the place `end`
-module _ (s : Counted) (right : sheetRefusal valueLimit s ≡ 0) {own bytes : List ℕ} {end : ℕ} (put : Laid 0 (sheetBytes s) own bytes end) where
+module _ (s : View) (right : sheetRefusal valueLimit s ≡ 0) {own bytes : List ℕ} {end : ℕ} (put : Laid 0 (sheetBytes s) own bytes end) where
   -- the buffer is too short for them
   pub refused-short : (buffer : List ℕ) → length buffer < end → IsWritten s buffer 11 0 buffer
   refused-short buffer short =

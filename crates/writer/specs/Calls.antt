@@ -3,8 +3,8 @@
 use Prim.Native.Nat.{ℕ}
 use mathlib.Core.List.{List}
 use Rattle.model.specs.Bytes.{Wrote, write}
-use Rattle.model.specs.Counted.{Counted}
+use Rattle.model.specs.View.{View}
 
 -- what a write answers, and the lent buffer before and after it
-abbrev pub IsWritten : Counted → (before : List ℕ) → (number written : ℕ) → (after : List ℕ) → Type 0
+abbrev pub IsWritten : View → (before : List ℕ) → (number written : ℕ) → (after : List ℕ) → Type 0
 IsWritten s before number written after = Wrote (write s before) number written after

@@ -1,7 +1,7 @@
 // The writer: a sheet's bytes into a lent buffer. They are put into an array of its own first, so that a refused write touches nothing. Its
 // call takes any sheet in memory and any buffer. What it refuses, it refuses with a number.
+use buffers::lay;
 use counts::table;
-use decimals::put_text;
 use model::Job;
 use model::Sheet;
 use model::Speed;
@@ -14,7 +14,7 @@ ghost use Rattle.writer.specs.Calls.{IsWritten};
 ghost use Rattle.buffers.specs.Laid.{Laid};
 ghost use Rattle.writer.specs.Short.{SpeedShort, JobShort};
 ghost use Rattle.model.specs.Bytes.{codeIn, code, speedCode, jobCode, speedBytes, jobBytes, sheetBytes};
-ghost use Rattle.model.specs.Counted.{counted};
+ghost use Rattle.model.specs.View.{viewOf};
 ghost use Rattle.model.specs.Refusal.{fieldsRefusal};
 
 // The number 0 with how many bytes were written, or a refusal's number with 0.
@@ -63,8 +63,8 @@ fn put_speed(buffer: &mut [u8], at: usize, one: Speed) -> usize
 
 // Writes the speeds.
 fn put_speeds(buffer: &mut [u8], at: usize, sheet: Sheet) -> usize
-    requires { ⌜ (fieldsRefusal (counted sheet) ≡ 0) × (at + length (speedBytes (counted sheet) (sheet .«speed_count»)) ≤ length (now buffer)) ⌝ }
-    ensures { λ r. ⌜ Laid at (speedBytes (counted sheet) (sheet .«speed_count»)) (now (buffer .entry)) (now (buffer .exit)) r ⌝ }
+    requires { ⌜ (fieldsRefusal (viewOf sheet) ≡ 0) × (at + length (speedBytes (viewOf sheet) (sheet .«speed_count»)) ≤ length (now buffer)) ⌝ }
+    ensures { λ r. ⌜ Laid at (speedBytes (viewOf sheet) (sheet .«speed_count»)) (now (buffer .entry)) (now (buffer .exit)) r ⌝ }
 {
     let mut next = at;
     let mut place = 0;
@@ -87,8 +87,8 @@ fn put_job(buffer: &mut [u8], at: usize, one: Job) -> usize
 
 // Writes the jobs.
 fn put_jobs(buffer: &mut [u8], at: usize, sheet: Sheet) -> usize
-    requires { ⌜ (fieldsRefusal (counted sheet) ≡ 0) × (at + length (jobBytes (counted sheet) (sheet .«job_count»)) ≤ length (now buffer)) ⌝ }
-    ensures { λ r. ⌜ Laid at (jobBytes (counted sheet) (sheet .«job_count»)) (now (buffer .entry)) (now (buffer .exit)) r ⌝ }
+    requires { ⌜ (fieldsRefusal (viewOf sheet) ≡ 0) × (at + length (jobBytes (viewOf sheet) (sheet .«job_count»)) ≤ length (now buffer)) ⌝ }
+    ensures { λ r. ⌜ Laid at (jobBytes (viewOf sheet) (sheet .«job_count»)) (now (buffer .entry)) (now (buffer .exit)) r ⌝ }
 {
     let mut next = at;
     let mut place = 0;
@@ -102,8 +102,8 @@ fn put_jobs(buffer: &mut [u8], at: usize, sheet: Sheet) -> usize
 
 // Writes all the fields in order.
 fn put_sheet(buffer: &mut [u8], sheet: Sheet) -> usize
-    requires { ⌜ (fieldsRefusal (counted sheet) ≡ 0) × (length (sheetBytes (counted sheet)) ≤ length (now buffer)) ⌝ }
-    ensures { λ r. ⌜ Laid 0 (sheetBytes (counted sheet)) (now (buffer .entry)) (now (buffer .exit)) r ⌝ }
+    requires { ⌜ (fieldsRefusal (viewOf sheet) ≡ 0) × (length (sheetBytes (viewOf sheet)) ≤ length (now buffer)) ⌝ }
+    ensures { λ r. ⌜ Laid 0 (sheetBytes (viewOf sheet)) (now (buffer .entry)) (now (buffer .exit)) r ⌝ }
 {
     let at_speeds = put_two(buffer, 0, sheet.bound, sheet.speed_count);
     let at_horizon = put_speeds(buffer, at_speeds, sheet);
@@ -115,7 +115,7 @@ fn put_sheet(buffer: &mut [u8], sheet: Sheet) -> usize
 // speeds and three for each of 32 jobs. (By the ranges of the fields a sheet takes 201 bytes at most; three for every number is less to prove.)
 // Where the lent buffer has room for them, the bytes are then put there as a text is.
 pub fn write(sheet: Sheet, buffer: &mut [u8]) -> Written
-    ensures { λ r. ⌜ IsWritten (counted sheet) (now (buffer .entry)) (r .number) (r .length) (now (buffer .exit)) ⌝ }
+    ensures { λ r. ⌜ IsWritten (viewOf sheet) (now (buffer .entry)) (r .number) (r .length) (now (buffer .exit)) ⌝ }
 {
     let counts = table();
     let number = sheet_refusal(&counts, sheet);
@@ -130,6 +130,6 @@ pub fn write(sheet: Sheet, buffer: &mut [u8]) -> Written
             length: 0,
         };
     }
-    let length = put_text(buffer, 0, &bytes[..end]);
+    let length = lay(buffer, 0, &bytes[..end]);
     Written { number: 0, length }
 }

@@ -3,7 +3,7 @@ use Prim.Native.Nat.{ℕ, zero, suc}
 use mathlib.Core.Path.{_≡_, refl, sym, _∙_, subst}
 use mathlib.Core.List.{List}
 use borrow.Author.Needs.{needs}
-use Rattle.model.specs.Counted.{counted}
+use Rattle.model.specs.View.{viewOf}
 use Rattle.model.specs.Plan.{PlanAnswer, Leaves}
 use Rattle.model.specs.Width.{narrow}
 use Rattle.model.specs.Reading.{read}
@@ -20,27 +20,27 @@ refused-read values plan {bytes} {number} is some =
     record {
       answer = none-with number;
       number-is = refl;
-      leaves = subst (λ (n : ℕ). LeavesRead n (counted (read bytes .sheet)) values plan values plan (none-with number)) (is .number-is)
+      leaves = subst (λ (n : ℕ). LeavesRead n (viewOf (read bytes .sheet)) values plan values plan (none-with number)) (is .number-is)
           (go number some);
     }
   where
     none-with : ℕ → PlanAnswer
     none-with n = record { number = n; queues = 0; least = 0 }
 
-    go : (n : ℕ) → (n ≡ 0 → ⊥) → LeavesRead n (counted (read bytes .sheet)) values plan values plan (none-with n)
+    go : (n : ℕ) → (n ≡ 0 → ⊥) → LeavesRead n (viewOf (read bytes .sheet)) values plan values plan (none-with n)
     go zero h = absurd (h refl)
     go (suc n) h = record { values-same = refl; plan-same = refl; answer = refl }
 
 -- they are read, and the sheet is planned
 planned-read : {bytes values₀ plan₀ values plan : List ℕ} {number : ℕ} {sheet : Sheet} (answer : PlanAnswer) → IsRead bytes number sheet →
-    number ≡ 0 → Leaves narrow (counted sheet) values₀ plan₀ values plan answer →
+    number ≡ 0 → Leaves narrow (viewOf sheet) values₀ plan₀ values plan answer →
     IsPlanned bytes values₀ plan₀ values plan (answer .number)
 planned-read {bytes} {values₀} {plan₀} {values} {plan} answer is none left =
     record {
       answer = answer;
       number-is = refl;
-      leaves = subst (λ (n : ℕ). LeavesRead n (counted (read bytes .sheet)) values₀ plan₀ values plan answer) (sym none ∙ is .number-is)
-          (subst (λ (sheet : Sheet). Leaves narrow (counted sheet) values₀ plan₀ values plan answer) (is .sheet-is) left);
+      leaves = subst (λ (n : ℕ). LeavesRead n (viewOf (read bytes .sheet)) values₀ plan₀ values plan answer) (sym none ∙ is .number-is)
+          (subst (λ (sheet : Sheet). Leaves narrow (viewOf sheet) values₀ plan₀ values plan answer) (is .sheet-is) left);
     }
 
 read-requires : tie.Need-read-requires

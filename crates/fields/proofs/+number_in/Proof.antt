@@ -5,7 +5,7 @@ use native.Mathlib.Omega.{arith}
 use borrow.Author.Needs.{needs}
 use denote.Ref.{now}
 use Rattle.model.specs.Reading.{value, joined, numberIn}
-use Rattle.fields.specs.Answers.{fieldAnswer, Below}
+use Rattle.fields.specs.Answers.{fieldAnswer, Short}
 use Rattle.fields.proofs.Groups.{nonzero, no-byte, bytes-end, last-byte, more-bytes, rest-zero, rest-some, one-below, more-below, below-fits}
 use borrow.Fn.Kinds.{In}
 use borrow.Fn.PlainCycle.{Measures, is, falls, and}
@@ -82,7 +82,7 @@ number-in-returns-4 t c =
       told ∙
           more-bytes (a .most) (now (a .bytes)) (a .at) (c .before .before .before .before .before .before .before .if1 .left) (c .before .before .before .before .before .before .if2 .left) (c .before .before .before .before .wide .ensures .0) (c .before .before .before .if3 .left)
           (sym told ∙ rest .ensures .0),
-      subst (Below (a .most)) (sym told) tt,
+      subst (Short (a .most)) (sym told) tt,
     )
 
 -- where the rest of the number was read
@@ -114,7 +114,7 @@ joined-is t c =
 -- and is small
 joined-small : (t : ℕ) (c : RestRead t) → low t c + 128 * high t c < 128 ^ start t c .args .most
 joined-small t c =
-    let rest = subst (Below (start t c .args .most - 1)) (ap fieldAnswer (c .before .rest .given .1)) (c .before .before .before .number-in .ensures .1) in
+    let rest = subst (Short (start t c .args .most - 1)) (ap fieldAnswer (c .before .rest .given .1)) (c .before .before .before .number-in .ensures .1) in
     more-below (start t c .args .most) (c .before .before .before .before .before .wide .result) (high t c) (c .before .before .before .before .before .before .before .before .if1 .left) (c .before .before .before .before .before .wide .ensures .1) rest
 
 joined-fits : (t : ℕ) (c : RestRead t) → low t c + 128 * high t c < 268435456

@@ -3,7 +3,7 @@ use Prim.Native.Nat.{_≤_, _-_}
 use mathlib.Core.Path.{_≡_, refl, ap}
 use native.Mathlib.Omega.{arith}
 use Rattle.model.proofs.Refusal.{ranged}
-use Rattle.model.specs.Counted.{counted, speedAt, energyAt, M, greatestEnergy}
+use Rattle.model.specs.View.{viewOf, speedAt, energyAt, M, greatestEnergy}
 use Rattle.model.specs.Tests.{greatest}
 use Rattle.model.specs.declared.Speed.{Speed}
 use Rattle.limits.proofs.Places.{speed-counts, greatest-next, greatest-whole}
@@ -12,7 +12,7 @@ use Rattle.limits.proofs.greatest_of.Tie as tie
 
 abbrev Inv-loop : tie.InvT-loop
 Inv-loop sheet speed₀ energy₀ place₀ speed energy place =
-    (place ≤ sheet .«speed_count») × (speed ≡ greatest (speedAt (counted sheet)) place) × (energy ≡ greatest (energyAt (counted sheet)) place)
+    (place ≤ sheet .«speed_count») × (speed ≡ greatest (speedAt (viewOf sheet)) place) × (energy ≡ greatest (energyAt (viewOf sheet)) place)
 
 abbrev μ-loop : tie.MeasureT-loop
 μ-loop sheet speed₀ energy₀ place₀ speed energy place = sheet .«speed_count» - place
@@ -25,10 +25,10 @@ cast-one : tie.Need-cast-one Inv-loop μ-loop
 cast-one c = omega arith
 
 mul-one : tie.Need-mul-one Inv-loop μ-loop
-mul-one c = omega (arith, ranged (counted (c .before .before .args .t1)) (c .before .before .pre) .speeds-high)
+mul-one c = omega (arith, ranged (viewOf (c .before .before .args .t1)) (c .before .before .pre) .speeds-high)
 
 element-copy-out-one : tie.Need-element-copy-out-one Inv-loop μ-loop
-element-copy-out-one c = omega (arith, ranged (counted (c .before .before .args .t1)) (c .before .before .pre) .speeds-high)
+element-copy-out-one c = omega (arith, ranged (viewOf (c .before .before .args .t1)) (c .before .before .pre) .speeds-high)
 
 larger-requires : tie.Need-larger-requires Inv-loop μ-loop
 larger-requires c κs = tt
@@ -48,8 +48,8 @@ loop-again c =
     let l = c .before .before .before .before .loop in
     let here = speed-counts s (l .place) (c .before .before .before .loop-test .taken) in (
       omega arith,
-      greatest-next (speedAt (counted s)) (l .place) (l .inv .1) (ap (λ (one : Speed). one .speed) here) (c .before .larger .ensures),
-      greatest-next (energyAt (counted s)) (l .place) (l .inv .2) (ap (λ (one : Speed). one .energy) here) (c .larger2 .ensures),
+      greatest-next (speedAt (viewOf s)) (l .place) (l .inv .1) (ap (λ (one : Speed). one .speed) here) (c .before .larger .ensures),
+      greatest-next (energyAt (viewOf s)) (l .place) (l .inv .2) (ap (λ (one : Speed). one .energy) here) (c .larger2 .ensures),
     )
 
 returns : tie.Need-returns Inv-loop μ-loop
@@ -57,8 +57,8 @@ unfolding M greatestEnergy
 returns c =
     let s = c .before .before .args .t1 in
     let l = c .before .loop in (
-      greatest-whole (speedAt (counted s)) (l .place) (s .«speed_count») (l .inv .1) (l .inv .0) (c .loop-test .left),
-      greatest-whole (energyAt (counted s)) (l .place) (s .«speed_count») (l .inv .2) (l .inv .0) (c .loop-test .left),
+      greatest-whole (speedAt (viewOf s)) (l .place) (s .«speed_count») (l .inv .1) (l .inv .0) (c .loop-test .left),
+      greatest-whole (energyAt (viewOf s)) (l .place) (s .«speed_count») (l .inv .2) (l .inv .0) (c .loop-test .left),
     )
 
 pub greatest-of-spec : {M : Type 1} → statement M

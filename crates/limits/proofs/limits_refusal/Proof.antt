@@ -3,7 +3,7 @@ use mathlib.Core.Path.{sym, _∙_}
 use borrow.Author.Needs.{needs}
 use borrow.Author.Tests.{le-leb, lt-leb}
 use Rattle.model.proofs.Tests.{then-passes, then-fails, check-true, check-false}
-use Rattle.model.specs.Counted.{counted}
+use Rattle.model.specs.View.{viewOf}
 use Rattle.model.specs.Refusal.{limitLines, N}
 use Rattle.ranges.proofs.Answers.{passed-by, failed-by}
 use Rattle.limits.proofs.limits_refusal.Statement.{statement}
@@ -24,7 +24,7 @@ queues-of-requires c κs = search needs
 returns-2 : tie.Need-returns-2
 unfolding limitLines
 returns-2 c =
-    let s = counted (c .before .before .before .before .args .sheet) in
+    let s = viewOf (c .before .before .before .before .args .sheet) in
     let f = c .before .before .before .value-fits in
     sym
     (then-passes _ 9 _ (passed-by (f .ensures) (c .before .before .if1 .left)) ∙
@@ -33,7 +33,7 @@ returns-2 c =
 returns-3 : tie.Need-returns-3
 unfolding limitLines
 returns-3 c =
-    let s = counted (c .before .before .before .before .args .sheet) in
+    let s = viewOf (c .before .before .before .before .args .sheet) in
     let f = c .before .before .before .value-fits in
     sym
     (then-passes _ 9 _ (passed-by (f .ensures) (c .before .before .if1 .left)) ∙

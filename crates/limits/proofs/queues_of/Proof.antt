@@ -4,7 +4,7 @@ use mathlib.Core.Path.{sym, ap, _∙_}
 use native.Mathlib.Omega.{arith}
 use borrow.Author.Needs.{needs}
 use Rattle.model.proofs.Refusal.{ranged, N-is}
-use Rattle.model.specs.Counted.{counted}
+use Rattle.model.specs.View.{viewOf}
 use Rattle.model.specs.Queue.{queueCount}
 use Rattle.queues.proofs.Bounds.{ranges-of}
 use Rattle.limits.proofs.queues_of.Statement.{statement}
@@ -19,11 +19,11 @@ cast-queue-count c = search needs
 queue-count-requires : tie.Need-queue-count-requires
 queue-count-requires c κs =
     let start = c .before .before in
-    (start .pre .0, ranges-of (ranged (counted (start .args .sheet)) (start .pre .1)) (c .before .greatest-of .ensures .0) (omega arith))
+    (start .pre .0, ranges-of (ranged (viewOf (start .args .sheet)) (start .pre .1)) (c .before .greatest-of .ensures .0) (omega arith))
 
 returns : tie.Need-returns
 returns c =
-    let s = counted (c .before .before .before .args .sheet) in
+    let s = viewOf (c .before .before .before .args .sheet) in
     c .queue-count .ensures ∙ ap (λ (m : ℕ). queueCount m (s .bound)) (c .before .before .greatest-of .ensures .0) ∙ sym (N-is s)
 
 pub queues-of-spec : {M : Type 1} → statement M

@@ -6,7 +6,7 @@ use native.Mathlib.Omega.{arith}
 use borrow.Author.Needs.{needs}
 use lib.Dec.{leb}
 use Rattle.model.proofs.Refusal.{ranged, G-high, W-low}
-use Rattle.model.specs.Counted.{counted, G}
+use Rattle.model.specs.View.{viewOf, G}
 use Rattle.limits.proofs.value_fits.Statement.{statement}
 use Rattle.limits.proofs.value_fits.Tie as tie
 
@@ -21,7 +21,7 @@ cast-product-fits c = search needs
 
 mul-product-fits : tie.Need-mul-product-fits
 mul-product-fits c =
-    let sheet = counted (c .before .before .args .sheet) in
+    let sheet = viewOf (c .before .before .args .sheet) in
     let most : c .before .greatest-or-one .result ≤ 65535 = rw (c .before .greatest-or-one .ensures) (G-high sheet (ranged sheet (c .before .before .pre))) in
     let small : c .before .before .args .factor ≤ 4294967295 = omega arith in
     omega (arith, mul-le-mul small most)
@@ -31,7 +31,7 @@ cast-product-fits-2 c = search needs
 
 product-fits-requires : tie.Need-product-fits-requires
 product-fits-requires c κs =
-    let sheet = counted (c .before .before .args .sheet) in
+    let sheet = viewOf (c .before .before .args .sheet) in
     rw (c .weights .ensures) (W-low sheet (ranged sheet (c .before .before .pre)))
 
 returns : tie.Need-returns
@@ -39,7 +39,7 @@ returns c =
     let a = c .before .before .before .args in
     c .product-fits .ensures ∙
     ap (λ (g : ℕ). leb (a .factor * g * c .before .weights .result ^ a .sheet .horizon) (a .limit)) (c .before .before .greatest-or-one .ensures) ∙
-    ap (λ (w : ℕ). leb (a .factor * G (counted (a .sheet)) * w ^ a .sheet .horizon) (a .limit)) (c .before .weights .ensures)
+    ap (λ (w : ℕ). leb (a .factor * G (viewOf (a .sheet)) * w ^ a .sheet .horizon) (a .limit)) (c .before .weights .ensures)
 
 pub value-fits-spec : {M : Type 1} → statement M
 value-fits-spec =

@@ -2,7 +2,7 @@
 use native.Mathlib.Omega.{arith}
 use borrow.Author.Needs.{needs}
 use Rattle.model.proofs.Refusal.{ranged}
-use Rattle.model.specs.Counted.{counted}
+use Rattle.model.specs.View.{viewOf}
 use Rattle.lookups.proofs.Looking.{energy-at-place}
 use Rattle.lookups.proofs.energy_of.Statement.{statement}
 use Rattle.lookups.proofs.energy_of.Tie as tie
@@ -23,7 +23,7 @@ element-copy-out-one c =
     omega (
       arith,
       energy-at-place (a .t1) (a .speed) (c .place-of .result) (c .place-of .ensures) (start .pre .1) .0,
-      ranged (counted (a .t1)) (start .pre .0) .speeds-high,
+      ranged (viewOf (a .t1)) (start .pre .0) .speeds-high,
     )
 
 returns : tie.Need-returns

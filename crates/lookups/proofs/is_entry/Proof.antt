@@ -4,7 +4,7 @@ use mathlib.Core.Bool.{false}
 use mathlib.Core.Path.{_≡_, refl}
 use native.Mathlib.Omega.{arith}
 use Rattle.model.proofs.Refusal.{ranged}
-use Rattle.model.specs.Counted.{counted}
+use Rattle.model.specs.View.{viewOf}
 use Rattle.model.specs.Stepper.{isEntryAt}
 use Rattle.model.specs.Tests.{anywhere}
 use Rattle.lookups.proofs.Looking.{entry-not-here, entry-found, entry-nowhere}
@@ -12,7 +12,7 @@ use Rattle.lookups.proofs.is_entry.Statement.{statement}
 use Rattle.lookups.proofs.is_entry.Tie as tie
 
 abbrev Inv-loop : tie.InvT-loop
-Inv-loop size deadline sheet entry₀ entry = (anywhere (isEntryAt (counted sheet) size deadline) entry ≡ false) × (entry ≤ sheet .«job_count»)
+Inv-loop size deadline sheet entry₀ entry = (anywhere (isEntryAt (viewOf sheet) size deadline) entry ≡ false) × (entry ≤ sheet .«job_count»)
 
 abbrev μ-loop : tie.MeasureT-loop
 μ-loop size deadline sheet entry₀ entry = sheet .«job_count» - entry
@@ -21,7 +21,7 @@ abbrev μ-loop : tie.MeasureT-loop
 below : (c : tie.In-loop Inv-loop μ-loop) → c .before .loop .entry < c .before .before .args .t1 .«job_count»
 below c =
     let start = c .before .before in
-    omega (arith, c .loop-test .taken, ranged (counted (start .args .t1)) (start .pre) .jobs-low)
+    omega (arith, c .loop-test .taken, ranged (viewOf (start .args .t1)) (start .pre) .jobs-low)
 
 loop-holds : tie.Need-loop-holds Inv-loop μ-loop
 unfolding anywhere
@@ -31,10 +31,10 @@ cast-one : tie.Need-cast-one Inv-loop μ-loop
 cast-one c = omega arith
 
 mul-one : tie.Need-mul-one Inv-loop μ-loop
-mul-one c = omega (arith, ranged (counted (c .before .before .args .t1)) (c .before .before .pre) .jobs-high)
+mul-one c = omega (arith, ranged (viewOf (c .before .before .args .t1)) (c .before .before .pre) .jobs-high)
 
 element-copy-out-one : tie.Need-element-copy-out-one Inv-loop μ-loop
-element-copy-out-one c = omega (arith, ranged (counted (c .before .before .args .t1)) (c .before .before .pre) .jobs-high)
+element-copy-out-one c = omega (arith, ranged (viewOf (c .before .before .args .t1)) (c .before .before .pre) .jobs-high)
 
 is-job-requires : tie.Need-is-job-requires Inv-loop μ-loop
 is-job-requires c κs = tt

@@ -3,14 +3,14 @@ use Prim.Native.Nat.{_-_, _≤_}
 use mathlib.Core.Path.{_≡_, refl}
 use native.Mathlib.Omega.{arith}
 use Rattle.model.proofs.Refusal.{ranged}
-use Rattle.model.specs.Counted.{counted, isSpeedAt}
+use Rattle.model.specs.View.{viewOf, isSpeedAt}
 use Rattle.model.specs.Tests.{firstPlace}
 use Rattle.lookups.proofs.Looking.{speed-not-here, speed-found, speed-nowhere}
 use Rattle.lookups.proofs.place_of.Statement.{statement}
 use Rattle.lookups.proofs.place_of.Tie as tie
 
 abbrev Inv-loop : tie.InvT-loop
-Inv-loop speed sheet place₀ place = (firstPlace (isSpeedAt (counted sheet) speed) place ≡ place) × (place ≤ sheet .«speed_count»)
+Inv-loop speed sheet place₀ place = (firstPlace (isSpeedAt (viewOf sheet) speed) place ≡ place) × (place ≤ sheet .«speed_count»)
 
 abbrev μ-loop : tie.MeasureT-loop
 μ-loop speed sheet place₀ place = sheet .«speed_count» - place
@@ -23,10 +23,10 @@ cast-one : tie.Need-cast-one Inv-loop μ-loop
 cast-one c = omega arith
 
 mul-one : tie.Need-mul-one Inv-loop μ-loop
-mul-one c = omega (arith, ranged (counted (c .before .before .args .t1)) (c .before .before .pre) .speeds-high)
+mul-one c = omega (arith, ranged (viewOf (c .before .before .args .t1)) (c .before .before .pre) .speeds-high)
 
 element-copy-out-one : tie.Need-element-copy-out-one Inv-loop μ-loop
-element-copy-out-one c = omega (arith, ranged (counted (c .before .before .args .t1)) (c .before .before .pre) .speeds-high)
+element-copy-out-one c = omega (arith, ranged (viewOf (c .before .before .args .t1)) (c .before .before .pre) .speeds-high)
 
 returns : tie.Need-returns Inv-loop μ-loop
 returns c =

@@ -5,7 +5,7 @@ use Prim.Native.Nat.{ℕ}
 use lib.ListN.{length-replicate}
 use lib.Seq.{length-take-le}
 use mathlib.Core.Path.{sym}
-use Rattle.model.specs.Counted.{counted}
+use Rattle.model.specs.View.{viewOf}
 use Rattle.listing.proofs.Within.{listed-within}
 use Rattle.plan.proofs.print_listing.Statement.{statement}
 use Rattle.plan.proofs.print_listing.Tie as tie
@@ -25,7 +25,7 @@ returns c = search needs
 array-share-prefix-text : tie.Need-array-share-prefix-text
 array-share-prefix-text c =
     let start = c .before .before .before .before .before .before in
-    omega (arith, listed-within (counted (start .args .sheet)) (start .args .least) (start .args .plan .now) _ (c .before .before .before .list .ensures), length-replicate {0} {A = ℕ} 40000 0)
+    omega (arith, listed-within (viewOf (start .args .sheet)) (start .args .least) (start .args .plan .now) _ (c .before .before .before .list .ensures), length-replicate {0} {A = ℕ} 40000 0)
 
 slice-aggregate-write-all : tie.Need-slice-aggregate-write-all
 slice-aggregate-write-all c =

@@ -6,9 +6,9 @@ use mathlib.Core.List.{List}
 use borrow.Author.Needs.{needs}
 use denote.Ref.{now}
 use Rattle.laws.proofs.Readers.{fields-read}
-use Rattle.model.specs.Reading.{readSpeedTable, readJobTable, readCounted}
+use Rattle.model.specs.Reading.{readSpeedTable, readJobTable, readView}
 use Rattle.model.specs.Refusal.{boundRight, horizonRight, fieldsRefusal, limitsRefusal, N, valueLimit}
-use Rattle.model.specs.Counted.{Counted, sheetOf, counted, inMemory}
+use Rattle.model.specs.View.{View, viewWith, viewOf, inMemory}
 use Rattle.model.specs.declared.Speed.{Speed}
 use Rattle.ranges.proofs.Answers.{passed-by}
 use Rattle.tables.specs.Answers.{speedPlaces, jobPlaces}
@@ -69,7 +69,7 @@ after-bound c = c .before .before .before .answer .given .0 .1 .0
 bound-right : (c : BoundRead) → boundRight (bound c) ≡ true
 bound-right c = passed-by (c .before .bound-right .ensures) (c .if1 .left)
 
-bound-read : (c : BoundRead) → readCounted N (bytes c) 0 ≡ fromSpeeds (bound c) (bytes c) (after-bound c)
+bound-read : (c : BoundRead) → readView N (bytes c) 0 ≡ fromSpeeds (bound c) (bytes c) (after-bound c)
 bound-read c =
     field-passes at-bound (c .before .before .before .before .before .field-at .ensures) (c .before .before .before .answer .given .1)
     (c .before .bound-right .ensures) (c .if1 .left)
@@ -95,7 +95,7 @@ speeds-given c =
 
 speeds-read : (c : SpeedsRead) →
     let s = with-bound c in
-    readCounted N (bytes s) 0 ≡ fromHorizon (bound s) (speeds-given c .0) (bytes s) (speed-table c .next)
+    readView N (bytes s) 0 ≡ fromHorizon (bound s) (speeds-given c .0) (bytes s) (speed-table c .next)
 speeds-read c =
     let s = with-bound c in
     bound-read s ∙ speeds-come (bound s) (bytes s) (after-bound s) (speeds-given c .1)
@@ -119,7 +119,7 @@ horizon-right c = passed-by (c .before .horizon-right .ensures) (c .if3 .left)
 
 horizon-read : (c : HorizonRead) →
     let s = with-bound (with-speeds c) in
-    readCounted N (bytes s) 0 ≡ fromJobs (bound s) (speeds-given (with-speeds c) .0) (horizon c) (bytes s) (after-horizon c)
+    readView N (bytes s) 0 ≡ fromJobs (bound s) (speeds-given (with-speeds c) .0) (horizon c) (bytes s) (after-horizon c)
 horizon-read c =
     let s = with-bound (with-speeds c) in
     speeds-read (with-speeds c) ∙
@@ -150,7 +150,7 @@ jobs-given c =
 
 jobs-read : (c : JobsRead) →
     let s = start c in
-    readCounted N (bytes s) 0 ≡
+    readView N (bytes s) 0 ≡
     atEnd (bound s) (speeds-given (with-speeds (with-horizon c)) .0) (horizon (with-horizon c)) (jobs-given c .0) (bytes s) (job-table c .next)
 jobs-read c =
     let s = start c in
@@ -168,7 +168,7 @@ with-jobs c = c .before .before .before
 abbrev speeds : JobsRead → List Speed
 speeds c = speeds-given (with-speeds (with-horizon c)) .0
 
-fields-right : (c : JobsRead) → fieldsRefusal (sheetOf (bound (start c)) (speeds c) (horizon (with-horizon c)) (jobs-given c .0)) ≡ 0
+fields-right : (c : JobsRead) → fieldsRefusal (viewWith (bound (start c)) (speeds c) (horizon (with-horizon c)) (jobs-given c .0)) ≡ 0
 fields-right c =
     let h = with-horizon c in
     fields-read (bytes (start c)) (bound (start c)) (horizon h) (speeds c) (jobs-given c .0) (after-bound (start c))
@@ -177,7 +177,7 @@ fields-right c =
 
 memory-right : (c : Together) →
     let j = with-jobs c in
-    c .whole .result ≡ inMemory (sheetOf (bound (start j)) (speeds j) (horizon (with-horizon j)) (jobs-given j .0))
+    c .whole .result ≡ inMemory (viewWith (bound (start j)) (speeds j) (horizon (with-horizon j)) (jobs-given j .0))
 memory-right c =
     let j = with-jobs c in
     c .whole .ensures ∙
@@ -186,7 +186,7 @@ memory-right c =
 
 counts-right : (c : Together) →
     let j = with-jobs c in
-    counted (c .whole .result) ≡ sheetOf (bound (start j)) (speeds j) (horizon (with-horizon j)) (jobs-given j .0)
+    viewOf (c .whole .result) ≡ viewWith (bound (start j)) (speeds j) (horizon (with-horizon j)) (jobs-given j .0)
 counts-right c =
     let j = with-jobs c in
     memory-counts (bound (start j)) (horizon (with-horizon j)) (speeds j) (jobs-given j .0) (fields-right j) (memory-right c)
@@ -321,7 +321,7 @@ returns-8 c =
     let w = c .before in
     let j = with-jobs w in
     read-judged (bytes (start j)) (job-table j .next) (bound (start j)) (horizon (with-horizon j)) (speeds j) (jobs-given j .0) (jobs-read j)
-    (w .before .if5 .left) (c .judged .ensures .0 ∙ ap (λ (s : Counted). limitsRefusal valueLimit (N s) s) (counts-right w)) (memory-right w)
+    (w .before .if5 .left) (c .judged .ensures .0 ∙ ap (λ (s : View). limitsRefusal valueLimit (N s) s) (counts-right w)) (memory-right w)
     (c .judged .ensures .1)
 
 pub read-spec : {M : Type 1} → statement M

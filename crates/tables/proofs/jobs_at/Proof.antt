@@ -5,7 +5,7 @@ use mathlib.Core.Path.{refl}
 use native.Mathlib.Omega.{arith}
 use borrow.Author.Needs.{needs}
 use Rattle.laws.proofs.Readers.{read-job-positive}
-use Rattle.model.specs.Counted.{zeroJob}
+use Rattle.model.specs.View.{zeroJob}
 use Rattle.model.specs.Reading.{readJobs}
 use Rattle.tables.specs.Answers.{jobAnswer}
 use Rattle.tables.proofs.Rows.{SoFar, begins, goes-on, stops, ends, table-refused, next-job, no-job-left}

@@ -5,7 +5,7 @@ use mathlib.Core.Path.{refl}
 use native.Mathlib.Omega.{arith}
 use borrow.Author.Needs.{needs}
 use Rattle.laws.proofs.Readers.{read-speed-positive}
-use Rattle.model.specs.Counted.{zeroSpeed}
+use Rattle.model.specs.View.{zeroSpeed}
 use Rattle.model.specs.Reading.{readSpeeds}
 use Rattle.tables.specs.Answers.{speedAnswer}
 use Rattle.tables.proofs.Rows.{SoFar, begins, goes-on, stops, ends, table-refused, next-speed, no-speed-left}

@@ -6,7 +6,7 @@ use native.Mathlib.Omega.{arith}
 use lib.ListN.{getD}
 use Rattle.model.proofs.Refusal.{ranged}
 use Rattle.model.specs.Bytes.{jobBytes, jobCode}
-use Rattle.model.specs.Counted.{counted, zeroJob}
+use Rattle.model.specs.View.{viewOf, zeroJob}
 use Rattle.limits.proofs.Places.{job-counts}
 use Rattle.buffers.proofs.Laid.{LaidTo, laid-to-none, laid-to-length, laid-to-room, laid-to-more, laid-to-whole}
 use Rattle.writer.specs.Short.{JobShort}
@@ -16,7 +16,7 @@ use Rattle.writer.proofs.put_jobs.Tie as tie
 
 abbrev Inv-loop : tie.InvT-loop
 Inv-loop buffer₀ at sheet next₀ place₀ buffer next place =
-    (sheet .«job_count» ≤ 32) × LaidTo (λ j. jobCode (getD (counted sheet .jobs) j zeroJob)) (sheet .«job_count») at buffer₀ place buffer next
+    (sheet .«job_count» ≤ 32) × LaidTo (λ j. jobCode (getD (viewOf sheet .jobs) j zeroJob)) (sheet .«job_count») at buffer₀ place buffer next
 
 abbrev μ-loop : tie.MeasureT-loop
 μ-loop buffer₀ at sheet next₀ place₀ buffer next place = sheet .«job_count» - place
@@ -41,7 +41,7 @@ put-job-requires c κs =
     let l = c .before .before .before .loop in
     let inside = c .before .before .loop-test .taken in
     let here = job-counts sheet (l .place) inside in
-    (subst JobShort here (job-short (counted sheet) (start .pre .0) (l .place) inside), laid-to-room (l .inv .1) (ap jobCode here) inside)
+    (subst JobShort here (job-short (viewOf sheet) (start .pre .0) (l .place) inside), laid-to-room (l .inv .1) (ap jobCode here) inside)
 
 add-place : tie.Need-add-place Inv-loop μ-loop
 add-place c = omega arith

@@ -7,14 +7,14 @@ use borrow.Author.Needs.{needs}
 use lib.ListN.{getD}
 use Rattle.model.proofs.Refusal.{ranged, Ranged}
 use Rattle.model.specs.Bytes.{code, speedBytes, jobBytes, sheetBytes}
-use Rattle.model.specs.Counted.{Counted, counted}
+use Rattle.model.specs.View.{View, viewOf}
 use Rattle.model.specs.Tests.{inTurn}
 use Rattle.buffers.proofs.Laid.{LaidTo, laid-to-none, laid-to-room, laid-to-more, laid-to-whole}
 use Rattle.writer.proofs.put_sheet.Statement.{statement}
 use Rattle.writer.proofs.put_sheet.Tie as tie
 
 -- the bytes of the part at a place
-abbrev partAt : Counted → ℕ → List ℕ
+abbrev partAt : View → ℕ → List ℕ
 partAt s k =
     getD (
     (code (s .bound) ++ code (s .speedCount)) ∷
@@ -23,13 +23,13 @@ partAt s k =
     jobBytes s (s .jobCount) ∷ []) k []
 
 -- the parts in turn are the sheet's bytes
-parts : (s : Counted) → inTurn (partAt s) 4 ≡ sheetBytes s
+parts : (s : View) → inTurn (partAt s) 4 ≡ sheetBytes s
 unfolding inTurn sheetBytes
 parts s = simp append-assoc
 
 -- the first k parts are laid
 abbrev PutTo : tie.Start → ℕ → List ℕ → ℕ → Type 0
-PutTo c k buffer next = LaidTo (partAt (counted (c .args .sheet))) 4 0 (c .args .buffer .now) k buffer next
+PutTo c k buffer next = LaidTo (partAt (viewOf (c .args .sheet))) 4 0 (c .args .buffer .now) k buffer next
 
 -- the function's entry, seen from behind each call, and what is laid there
 
@@ -55,8 +55,8 @@ put3 : (c : tie.After-put-two2) → PutTo (start3 c) 3 (c .put-two2 .last .0) (c
 put3 c = laid-to-more (put2 (c .before .before .before .before)) refl (omega arith) (c .put-two2 .ensures)
 
 -- the fields are in range
-right : (c : tie.Start) → Ranged (counted (c .args .sheet))
-right c = ranged (counted (c .args .sheet)) (c .pre .0)
+right : (c : tie.Start) → Ranged (viewOf (c .args .sheet))
+right c = ranged (viewOf (c .args .sheet)) (c .pre .0)
 
 put-two-requires : tie.Need-put-two-requires
 put-two-requires c κs =

@@ -6,7 +6,7 @@ use native.Mathlib.Omega.{arith}
 use lib.ListN.{getD}
 use Rattle.model.proofs.Refusal.{ranged}
 use Rattle.model.specs.Bytes.{speedBytes, speedCode}
-use Rattle.model.specs.Counted.{counted, zeroSpeed}
+use Rattle.model.specs.View.{viewOf, zeroSpeed}
 use Rattle.limits.proofs.Places.{speed-counts}
 use Rattle.buffers.proofs.Laid.{LaidTo, laid-to-none, laid-to-length, laid-to-room, laid-to-more, laid-to-whole}
 use Rattle.writer.specs.Short.{SpeedShort}
@@ -16,7 +16,7 @@ use Rattle.writer.proofs.put_speeds.Tie as tie
 
 abbrev Inv-loop : tie.InvT-loop
 Inv-loop buffer₀ at sheet next₀ place₀ buffer next place =
-    (sheet .«speed_count» ≤ 9) × LaidTo (λ j. speedCode (getD (counted sheet .speeds) j zeroSpeed)) (sheet .«speed_count») at buffer₀ place buffer next
+    (sheet .«speed_count» ≤ 9) × LaidTo (λ j. speedCode (getD (viewOf sheet .speeds) j zeroSpeed)) (sheet .«speed_count») at buffer₀ place buffer next
 
 abbrev μ-loop : tie.MeasureT-loop
 μ-loop buffer₀ at sheet next₀ place₀ buffer next place = sheet .«speed_count» - place
@@ -41,7 +41,7 @@ put-speed-requires c κs =
     let l = c .before .before .before .loop in
     let inside = c .before .before .loop-test .taken in
     let here = speed-counts sheet (l .place) inside in
-    (subst SpeedShort here (speed-short (counted sheet) (start .pre .0) (l .place) inside), laid-to-room (l .inv .1) (ap speedCode here) inside)
+    (subst SpeedShort here (speed-short (viewOf sheet) (start .pre .0) (l .place) inside), laid-to-room (l .inv .1) (ap speedCode here) inside)
 
 add-place : tie.Need-add-place Inv-loop μ-loop
 add-place c = omega arith

@@ -6,7 +6,7 @@ use borrow.Author.Needs.{needs}
 use lib.ListN.{length}
 use lib.Seq.{length-take-le}
 use Rattle.model.specs.Bytes.{sheetBytes}
-use Rattle.model.specs.Counted.{Counted, counted}
+use Rattle.model.specs.View.{View, viewOf}
 use Rattle.model.specs.Refusal.{sheetRefusal, valueLimit}
 use Rattle.model.proofs.Refusal.{fields-right}
 use Rattle.buffers.proofs.Laid.{laid-next, laid-length}
@@ -16,8 +16,8 @@ use Rattle.writer.proofs.write.Statement.{statement}
 use Rattle.writer.proofs.write.Tie as tie
 
 -- the sheet, seen from behind the first test
-abbrev sheet : tie.Else1 → Counted
-sheet c = counted (c .before .before .before .before .before .args .sheet)
+abbrev sheet : tie.Else1 → View
+sheet c = viewOf (c .before .before .before .before .before .args .sheet)
 
 -- it is not refused
 accepted : (c : tie.Else1) → sheetRefusal valueLimit (sheet c) ≡ 0
@@ -36,7 +36,7 @@ sheet-refusal-requires c κs = search needs
 returns : tie.Need-returns
 returns c =
     let a = c .before .before .before .before .before .args in
-    write-refused (counted (a .sheet)) (a .buffer .now) (c .before .sheet-refusal .ensures) (c .if1 .taken)
+    write-refused (viewOf (a .sheet)) (a .buffer .now) (c .before .sheet-refusal .ensures) (c .if1 .taken)
 
 slice-aggregate-put-sheet : tie.Need-slice-aggregate-put-sheet
 slice-aggregate-put-sheet c = search needs
@@ -55,11 +55,11 @@ array-share-prefix-bytes c =
     let room = few (put .before .before) in
     omega (arith, laid-next (put .put-sheet .ensures), laid-length (put .put-sheet .ensures), room)
 
-slice-aggregate-put-text : tie.Need-slice-aggregate-put-text
-slice-aggregate-put-text c = sym (length-take-le _ _ (array-share-prefix-bytes (c .before)))
+slice-aggregate-lay : tie.Need-slice-aggregate-lay
+slice-aggregate-lay c = sym (length-take-le _ _ (array-share-prefix-bytes (c .before)))
 
-put-text-requires : tie.Need-put-text-requires
-put-text-requires c κs = omega (arith, slice-aggregate-put-text c, c .before .before .if2 .left)
+lay-requires : tie.Need-lay-requires
+lay-requires c κs = omega (arith, slice-aggregate-lay c, c .before .before .if2 .left)
 
 same-length : tie.Need-same-length
 same-length c = search needs
@@ -69,7 +69,7 @@ returns-3 c =
     let fits = c .before .before .before .before .before in
     let put = fits .before .before in
     write-done _ (accepted (put .before .before)) (put .put-sheet .ensures) (few (put .before .before)) (fits .if2 .left)
-    (c .before .before .put-text .ensures)
+    (c .before .before .lay .ensures)
 
 pub write-spec : {M : Type 1} → statement M
 write-spec =
@@ -82,7 +82,7 @@ write-spec =
     put-sheet-requires
     returns-2
     array-share-prefix-bytes
-    slice-aggregate-put-text
-    put-text-requires
+    slice-aggregate-lay
+    lay-requires
     same-length
     returns-3)

@@ -2,7 +2,7 @@
 use Prim.Native.Nat.{pred, _-_, _≤_}
 use native.Mathlib.Nat.{le-refl}
 use native.Mathlib.Omega.{arith}
-use Rattle.model.specs.Counted.{counted}
+use Rattle.model.specs.View.{viewOf}
 use Rattle.queues.specs.Blocks.{InBlocks}
 use Rattle.buffers.specs.Fills.{FillsWhere}
 use Rattle.value.specs.Narrow.{width}
@@ -15,7 +15,7 @@ use Rattle.ahead.proofs.pass.fill.Tie as tie
 abbrev Inv-loop : tie.InvT-loop
 Inv-loop sheet sizes lanes next values ahead₀ block₀ ahead block =
     (block ≤ sizes .blocks) ×
-    FillsWhere (width .places) (valueIn width) (λ i. sumLeft width (counted sheet) sizes next values i (sheet .«job_count»)) 0
+    FillsWhere (width .places) (valueIn width) (λ i. sumLeft width (viewOf sheet) sizes next values i (sheet .«job_count»)) 0
     (InBlocks (sizes .largest) (pred (sizes .bound)) block) ahead₀ ahead
 
 abbrev μ-loop : tie.MeasureT-loop

@@ -5,7 +5,7 @@ use mathlib.Core.Path.{_≡_, ap, _∙_, subst}
 use native.Mathlib.Nat.{add-zero, mul-le-mul-right}
 use native.Mathlib.Omega.{arith}
 use lib.ListN.{length, getD}
-use Rattle.model.specs.Counted.{counted}
+use Rattle.model.specs.View.{viewOf}
 use Rattle.queues.specs.Blocks.{startOf, lowestOf, InBlock}
 use Rattle.queues.proofs.Blocks.{risen-none, risen-more}
 use Rattle.buffers.specs.Fills.{FillsWhere}
@@ -23,7 +23,7 @@ abbrev Inv-loop : tie.InvT-loop
 Inv-loop sheet sizes lanes next values block ahead₀ at most lowest first far₀ steps₀ ahead far steps =
     (lowest ≡ lowestOf (sizes .largest) (pred (sizes .bound)) block) × (first ≡ startOf (sizes .largest) (pred (sizes .bound)) block) ×
     (lowest + steps ≤ suc (pred (sizes .bound) * sizes .largest)) × (far ≡ riseOf sizes block steps) ×
-    FillsWhere (width .places) (valueIn width) (λ i. sumLeft width (counted sheet) sizes next values i (sheet .«job_count»)) 0
+    FillsWhere (width .places) (valueIn width) (λ i. sumLeft width (viewOf sheet) sizes next values i (sheet .«job_count»)) 0
     (InBlock (sizes .largest) (pred (sizes .bound)) block (lowestOf (sizes .largest) (pred (sizes .bound)) block + steps)) ahead₀ ahead
 
 abbrev μ-loop : tie.MeasureT-loop
@@ -225,7 +225,7 @@ returns c =
     omega (arith, l .inv .0, l .inv .2, c .if1 .left, most-before (start .pre .0)) in
     subst
     (λ (x : ℕ). FillsWhere (width .places) (valueIn width)
-    (λ i. sumLeft width (counted (a .sheet)) (a .sizes) (a .next) (a .values .now) i (a .sheet .«job_count»)) 0
+    (λ i. sumLeft width (viewOf (a .sheet)) (a .sizes) (a .next) (a .values .now) i (a .sheet .«job_count»)) 0
     (InBlock (a .sizes .largest) (pred (a .sizes .bound)) (a .block) x) (a .ahead .now) (l .ahead))
     all (l .inv .4)
 

@@ -4,7 +4,7 @@ use mathlib.Core.Path.{_≡_, sym, ap, _∙_}
 use native.Mathlib.Omega.{arith}
 use borrow.Author.Needs.{needs}
 use lib.ListN.{length, getD}
-use Rattle.model.specs.Counted.{counted}
+use Rattle.model.specs.View.{viewOf}
 use Rattle.rows.proofs.Room.{blocks-few}
 use Rattle.entry_lanes.specs.Lanes.{firstAfter, stepsTo}
 use Rattle.ahead.proofs.Passing.{in-range, line-room, line-steps, sum-past}
@@ -21,7 +21,7 @@ line c =
 steps-read : (c : tie.After-line-at) →
     let a = c .before .before .before .args in
     getD (a .lanes .now) (c .line-at .result + 2) 0 ≡
-    stepsTo (a .sizes .largest) (a .sizes .bound) (counted (a .sheet)) (firstAfter (a .sizes .largest) (a .sizes .bound) (a .block))
+    stepsTo (a .sizes .largest) (a .sizes .bound) (viewOf (a .sheet)) (firstAfter (a .sizes .largest) (a .sizes .bound) (a .block))
     (a .sheet .«job_count»)
 steps-read c =
     let start = c .before .before .before in

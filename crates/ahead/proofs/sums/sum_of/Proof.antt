@@ -6,7 +6,7 @@ use mathlib.Core.Option.{Option}
 use native.Mathlib.Omega.{arith}
 use lib.ListN.{getD}
 use Rattle.process.specs.Recursion.{plus, times}
-use Rattle.model.specs.Counted.{counted}
+use Rattle.model.specs.View.{viewOf}
 use Rattle.value.specs.Narrow.{width, valueOf}
 use Rattle.value.specs.Values.{Fits}
 use Rattle.value.proofs.Decoding.{missing-none}
@@ -20,7 +20,7 @@ use Rattle.ahead.proofs.sums.sum_of.Tie as tie
 abbrev Inv-loop : tie.InvT-loop
 Inv-loop sheet sizes lanes next values block steps far sum₀ place₀ sum place =
     (place ≤ sheet .«job_count») ×
-    (valueOf sum ≡ sumLeft width (counted sheet) sizes next values (stepped sizes block steps) place)
+    (valueOf sum ≡ sumLeft width (viewOf sheet) sizes next values (stepped sizes block steps) place)
 
 abbrev μ-loop : tie.MeasureT-loop
 μ-loop sheet sizes lanes next values block steps far sum₀ place₀ sum place = sheet .«job_count» - place
@@ -30,12 +30,12 @@ turn : (c : tie.After-shared-slice-known3 Inv-loop μ-loop) →
     let l = c .before .before .before .before .before .before in
     let a = l .before .before .before .before .args in
     plus (valueOf (l .loop .sum)) (times (getD (a .lanes .now) (l .loop .place) 0) (valueOf (c .before .before .before .value-on .result))) ≡
-    sumLeft width (counted (a .sheet)) (a .sizes) (a .next) (a .values .now) (stepped (a .sizes) (a .block) (a .steps)) (l .loop .place + 1)
+    sumLeft width (viewOf (a .sheet)) (a .sizes) (a .next) (a .values .now) (stepped (a .sizes) (a .block) (a .steps)) (l .loop .place + 1)
 turn c =
     let l = c .before .before .before .before .before .before in
     let start = l .before .before .before .before in
     let a = start .args in
-    sum-more (counted (a .sheet)) (valueInRow width (a .sizes .largest) (a .values .now) (a .next))
+    sum-more (viewOf (a .sheet)) (valueInRow width (a .sizes .largest) (a .values .now) (a .next))
     (afterWith (a .sizes .largest) (a .sizes .bound) (stepped (a .sizes) (a .block) (a .steps))) (l .loop .place) (l .loop .inv .1)
     (weight-read (start .pre .0) (l .loop .place) (omega (arith, c .before .before .before .before .if1 .taken)))
     (c .before .before .before .value-on .ensures)
@@ -46,7 +46,7 @@ of-requires c κs = tt
 loop-holds : tie.Need-loop-holds Inv-loop μ-loop
 loop-holds c =
     let a = c .before .before .before .args in
-    (omega arith, c .of .ensures ∙ sum-begun (counted (a .sheet)) _ _)
+    (omega arith, c .of .ensures ∙ sum-begun (viewOf (a .sheet)) _ _)
 
 cast-if1 : tie.Need-cast-if1 Inv-loop μ-loop
 cast-if1 c = omega arith
@@ -67,7 +67,7 @@ returns c =
     let gone = missing-none (valueOf (c .before .before .value-on .result)) (sym (c .before .is-none .ensures) ∙ c .if2 .taken) in
     gone ∙
     sym
-    (sum-none (counted (a .sheet)) _ _ (a .sheet .«job_count») (l .loop .place) (omega (arith, c .before .before .before .if1 .taken))
+    (sum-none (viewOf (a .sheet)) _ _ (a .sheet .«job_count») (l .loop .place) (omega (arith, c .before .before .before .if1 .taken))
     (sym (c .before .before .value-on .ensures) ∙ gone))
 
 mul-add : tie.Need-mul-add Inv-loop μ-loop
@@ -103,7 +103,7 @@ returns-2 c =
     let l = c .before .before in
     let a = l .before .before .before .before .args in
     let all : l .loop .place ≡ a .sheet .«job_count» = omega (arith, l .loop .inv .0, c .if1 .left) in
-    l .loop .inv .1 ∙ ap (sumLeft width (counted (a .sheet)) (a .sizes) (a .next) (a .values .now)
+    l .loop .inv .1 ∙ ap (sumLeft width (viewOf (a .sheet)) (a .sizes) (a .next) (a .values .now)
     (stepped (a .sizes) (a .block) (a .steps))) all
 
 pub sum-of-spec : {M : Type 1} → statement M

@@ -5,7 +5,7 @@ use native.Mathlib.Nat.{mul-le-mul}
 use native.Mathlib.Omega.{arith}
 use borrow.Author.Needs.{needs}
 use lib.ListN.{length, getD}
-use Rattle.model.specs.Counted.{counted}
+use Rattle.model.specs.View.{viewOf}
 use Rattle.model.specs.Queue.{numberOf}
 use Rattle.value.specs.Narrow.{width}
 use Rattle.model.specs.Width.{valueIn}
@@ -30,7 +30,7 @@ line c =
 told : (c : tie.After-line-at) →
     let a = c .before .before .before .args in
     let number = numberOf (a .sizes .largest)
-    (joined (counted (a .sheet)) (afterWith (a .sizes .largest) (a .sizes .bound) (stepped (a .sizes) (a .block) (a .steps)))
+    (joined (viewOf (a .sheet)) (afterWith (a .sizes .largest) (a .sizes .bound) (stepped (a .sizes) (a .block) (a .steps)))
     (a .place)) in
     (number + a .steps * getD (a .lanes .now) (32 + a .place) 0 ≡ getD (a .lanes .now) (c .line-at .result + 3 + a .place) 0 + a .far) ×
     (a .steps * getD (a .lanes .now) (32 + a .place) 0 ≤ 48 * 255) × (number < a .sizes .queues) × (a .sizes .queues ≤ 65535)

@@ -3,8 +3,8 @@
 use mathlib.Core.Path.{refl, sym}
 use native.Mathlib.Omega.{arith}
 use borrow.Author.Needs.{needs}
-use Rattle.model.specs.Counted.{counted}
-use Rattle.model.proofs.Counted.{speeds-few}
+use Rattle.model.specs.View.{viewOf}
+use Rattle.model.proofs.View.{speeds-few}
 use Rattle.model.proofs.Refusal.{Accepted, accepted, fields-right}
 use Rattle.value.specs.Narrow.{width}
 use Rattle.sheets.specs.Sizes.{Measured}
@@ -15,12 +15,12 @@ use Rattle.backward.proofs.slots.fill.Statement.{statement}
 use Rattle.backward.proofs.slots.fill.Tie as tie
 
 -- the sheet is accepted
-right : (c : tie.Start) → Accepted (width .limit) (counted (c .args .sheet))
-right c = accepted (counted (c .args .sheet)) (c .pre .0 .accepted)
+right : (c : tie.Start) → Accepted (width .limit) (viewOf (c .args .sheet))
+right c = accepted (viewOf (c .args .sheet)) (c .pre .0 .accepted)
 
 -- and its sizes are in range
 sized : (c : tie.Start) → Measured (c .args .sizes)
-sized c = measured (counted (c .args .sheet)) (c .args .sizes) (right c) (c .pre .0 .sized)
+sized c = measured (viewOf (c .args .sheet)) (c .args .sizes) (right c) (c .pre .0 .sized)
 
 slice-aggregate-fill-table : tie.Need-slice-aggregate-fill-table
 slice-aggregate-fill-table c = refl
@@ -30,8 +30,8 @@ fill-table-requires c κs =
     let start = c .before .before .before in (
       start .pre .0 .holds,
       sized start,
-      fields-right (width .limit) (counted (start .args .sheet)) (start .pre .0 .accepted),
-      entry-lines-room (sized start) (counted (start .args .sheet) .jobCount) (right start .ranged .jobs-high),
+      fields-right (width .limit) (viewOf (start .args .sheet)) (start .pre .0 .accepted),
+      entry-lines-room (sized start) (viewOf (start .args .sheet) .jobCount) (right start .ranged .jobs-high),
     )
 
 slice-aggregate-fill-table-2 : tie.Need-slice-aggregate-fill-table-2
@@ -40,7 +40,7 @@ slice-aggregate-fill-table-2 c = refl
 fill-table-requires-2 : tie.Need-fill-table-requires-2
 fill-table-requires-2 c κs =
     let start = c .before .before .before .before .before .before in
-    let s = counted (start .args .sheet) in (
+    let s = viewOf (start .args .sheet) in (
       start .pre .0 .holds,
       sized start,
       fields-right (width .limit) s (start .pre .0 .accepted),
@@ -51,14 +51,14 @@ fill-table-requires-2 c κs =
 place-requires : tie.Need-place-requires
 place-requires c κs =
     let start = c .before .before .before .before .before .before .before .before in
-    let small = sizes-small (counted (start .args .sheet)) (right start) (start .pre .0 .sized) in
+    let small = sizes-small (viewOf (start .args .sheet)) (right start) (start .pre .0 .sized) in
     (small .0, omega (arith, small .1), omega arith)
 
 fill-end-requires : tie.Need-fill-end-requires
 fill-end-requires c κs =
     let placed = c .before in
     let start = placed .before .before .before .before .before .before .before .before .before in
-    end-room width (counted (start .args .sheet)) (start .args .sizes .queues) (placed .place .result) (start .pre .0 .sized .queues-is)
+    end-room width (viewOf (start .args .sheet)) (start .args .sizes .queues) (placed .place .result) (start .pre .0 .sized .queues-is)
     (placed .place .ensures) (start .args .values .now) (start .pre .2)
 
 slice-aggregate-fill-slots : tie.Need-slice-aggregate-fill-slots
@@ -82,7 +82,7 @@ fill-slots-requires c κs =
         start .pre .0,
         start .pre .1,
         omega (arith, start .pre .2, ended .fill-end .ensures .same-length),
-        planned-none width (counted (start .args .sheet)) (start .args .sizes .queues) (placed .place .result) (start .pre .0 .sized .queues-is)
+        planned-none width (viewOf (start .args .sheet)) (start .args .sizes .queues) (placed .place .result) (start .pre .0 .sized .queues-is)
             (placed .place .ensures) (ended .fill-end .ensures) (start .args .plan .now),
       ),
       (first .fill-table .ensures, second .fill-table2 .ensures),
@@ -100,7 +100,7 @@ returns c =
     let ended = called .before .before .before .before .before .before .before in
     let placed = ended .before .before in
     let start = placed .before .before .before .before .before .before .before .before .before in
-    planned-since width (counted (start .args .sheet)) (start .args .sizes .queues) (placed .place .result) (start .pre .0 .sized .queues-is)
+    planned-since width (viewOf (start .args .sheet)) (start .args .sizes .queues) (placed .place .result) (start .pre .0 .sized .queues-is)
     (placed .place .ensures) (ended .fill-end .ensures) (start .args .sheet .horizon) (called .fill-slots .ensures)
 
 pub fill-spec : {M : Type 1} → statement M

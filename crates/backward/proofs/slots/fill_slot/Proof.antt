@@ -1,6 +1,6 @@
 -- `fill_slot` meets its contract: what the first pass leaves is what the second one needs.
 use borrow.Author.Needs.{needs}
-use Rattle.model.specs.Counted.{counted}
+use Rattle.model.specs.View.{viewOf}
 use Rattle.value.specs.Narrow.{width}
 use Rattle.backward.proofs.Backward.{ahead-stands}
 use Rattle.backward.proofs.slots.fill_slot.Statement.{statement}
@@ -15,7 +15,7 @@ fill-row-requires c κs =
     let start = called .before .before .before .before .before .before .before .before in
     let pre = start .pre .0 in
     let stands =
-    ahead-stands width (counted (start .args .sheet)) (start .args .slot .left) (start .args .sizes .after) (pre .0 .prepared .sized .after-is)
+    ahead-stands width (viewOf (start .args .sheet)) (start .args .slot .left) (start .args .sizes .after) (pre .0 .prepared .sized .after-is)
     (pre .2) (called .fill-ahead .ensures) in
     ((pre .0, stands, pre .3, pre .4), start .pre .1 .1)
 

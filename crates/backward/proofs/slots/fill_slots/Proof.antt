@@ -7,7 +7,7 @@ use native.Mathlib.Nat.{pow-zero}
 use native.Mathlib.Numerals.{add-one}
 use native.Mathlib.Omega.{arith}
 use lib.ListN.{length}
-use Rattle.model.specs.Counted.{Counted, counted, W}
+use Rattle.model.specs.View.{View, viewOf, W}
 use Rattle.model.proofs.Refusal.{accepted, fields-right}
 use Rattle.value.specs.Narrow.{width, valueOf}
 use Rattle.sheets.proofs.Measures.{measured}
@@ -19,20 +19,20 @@ use Rattle.backward.proofs.slots.fill_slots.Tie as tie
 
 abbrev Inv-loop : tie.InvT-loop
 Inv-loop counts sheet sizes values₀ plan₀ entry-lanes speed-lanes ahead₀ all scale₀ left₀ values plan ahead scale left =
-    (left ≤ sheet .horizon) × (length ahead ≡ 7084) × (valueOf scale ≡ some (W (counted sheet) ^ left)) ×
-    PlannedFrom width (counted sheet) left values₀ plan₀ values plan
+    (left ≤ sheet .horizon) × (length ahead ≡ 7084) × (valueOf scale ≡ some (W (viewOf sheet) ^ left)) ×
+    PlannedFrom width (viewOf sheet) left values₀ plan₀ values plan
 
 abbrev μ-loop : tie.MeasureT-loop
 μ-loop counts sheet sizes values₀ plan₀ entry-lanes speed-lanes ahead₀ all scale₀ left₀ values plan ahead scale left = sheet .horizon - left
 
 -- the sheet, as a turn of the loop knows it
-abbrev sheetIn : tie.At-loop Inv-loop μ-loop → Counted
-sheetIn turn = counted (turn .before .before .before .before .before .before .before .args .sheet)
+abbrev sheetIn : tie.At-loop Inv-loop μ-loop → View
+sheetIn turn = viewOf (turn .before .before .before .before .before .before .before .args .sheet)
 
 weights-requires : tie.Need-weights-requires Inv-loop μ-loop
 weights-requires c κs =
     let start = c .before .before .before .before in
-    fields-right (width .limit) (counted (start .args .sheet)) (start .pre .0 .0 .accepted)
+    fields-right (width .limit) (viewOf (start .args .sheet)) (start .pre .0 .0 .accepted)
 
 of-requires : tie.Need-of-requires Inv-loop μ-loop
 of-requires c κs = tt
@@ -40,7 +40,7 @@ of-requires c κs = tt
 loop-holds : tie.Need-loop-holds Inv-loop μ-loop
 loop-holds c =
     let start = c .before .before .before .before .before .before in
-    (omega arith, refl, c .of .ensures ∙ ap (λ n. some n) (sym (pow-zero (W (counted (start .args .sheet))))), start .pre .0 .3)
+    (omega arith, refl, c .of .ensures ∙ ap (λ n. some n) (sym (pow-zero (W (viewOf (start .args .sheet))))), start .pre .0 .3)
 
 of-requires-2 : tie.Need-of-requires-2 Inv-loop μ-loop
 of-requires-2 c κs = tt
@@ -56,7 +56,7 @@ add-requires c κs =
 slot-with-requires : tie.Need-slot-with-requires Inv-loop μ-loop
 slot-with-requires c κs =
     let start = c .before .before .before .before .before .before .before .before .before .before .before in
-    let small = sizes-small (counted (start .args .sheet)) (accepted (counted (start .args .sheet)) (start .pre .0 .0 .accepted)) (start .pre .0 .0 .sized) in
+    let small = sizes-small (viewOf (start .args .sheet)) (accepted (viewOf (start .args .sheet)) (start .pre .0 .0 .accepted)) (start .pre .0 .0 .sized) in
     (small .0, omega (arith, small .1), omega (arith, c .before .before .if1 .taken))
 
 -- the slot of this turn stands where it should

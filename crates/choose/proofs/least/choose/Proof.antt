@@ -4,7 +4,7 @@ use Prim.Native.Nat.{ℕ, _+_, _-_, _≤_, _<_}
 use mathlib.Core.Path.{_≡_, ap, _∙_}
 use native.Mathlib.Omega.{arith}
 use lib.ListN.{length, getD}
-use Rattle.model.specs.Counted.{counted, speedAt}
+use Rattle.model.specs.View.{viewOf, speedAt}
 use Rattle.model.proofs.Tests.{first-within}
 use Rattle.queues.specs.Blocks.{queueWith, firstOf, numberIn}
 use Rattle.value.specs.Narrow.{width, valueOf}
@@ -18,9 +18,9 @@ use Rattle.choose.proofs.least.choose.Tie as tie
 
 abbrev Inv-loop : tie.InvT-loop
 Inv-loop sheet sizes scale lanes ahead block last best₀ place₀ best place =
-    (slowestIn (sizes .largest) (sizes .bound) (counted sheet) (firstOf (sizes .largest) (sizes .bound) block) ≤ place) ×
+    (slowestIn (sizes .largest) (sizes .bound) (viewOf sheet) (firstOf (sizes .largest) (sizes .bound) block) ≤ place) ×
     (place ≤ sheet .«speed_count») ×
-    IsChoice (leastTo (speedAt (counted sheet)) (costAt width (sizes .largest) (sizes .bound) (counted sheet) ahead (valueOf scale)
+    IsChoice (leastTo (speedAt (viewOf sheet)) (costAt width (sizes .largest) (sizes .bound) (viewOf sheet) ahead (valueOf scale)
     (queueWith (sizes .largest) (sizes .bound) (numberIn (sizes .largest) (sizes .bound) block last))) place) (best .speed)
     (valueOf (best .value))
 
@@ -37,7 +37,7 @@ line c =
 began : (c : tie.After-shared-slice-known3 Inv-loop μ-loop) →
     let a = c .before .before .before .before .before .args in
     getD (a .lanes .now) (c .before .line-at .result + 2) 0 ≡
-    slowestIn (a .sizes .largest) (a .sizes .bound) (counted (a .sheet)) (firstOf (a .sizes .largest) (a .sizes .bound) (a .block))
+    slowestIn (a .sizes .largest) (a .sizes .bound) (viewOf (a .sheet)) (firstOf (a .sizes .largest) (a .sizes .bound) (a .block))
 began c =
     let start = c .before .before .before .before .before in
     ap (λ (p : ℕ). getD (start .args .lanes .now) (p + 2) 0) (c .before .line-at .ensures) ∙
@@ -70,7 +70,7 @@ loop-holds : tie.Need-loop-holds Inv-loop μ-loop
 loop-holds c =
     let start = c .before .before .before .before .before in
     let a = start .args in
-    let s = counted (a .sheet) in
+    let s = viewOf (a .sheet) in
     let from = began c in (
       omega (arith, from),
       omega (
@@ -119,7 +119,7 @@ loop-again c =
     let low = c .before .before .before .if1 .taken in (
       omega (arith, l .loop .inv .0),
       omega (arith, low),
-      least-more (speedAt (counted (start .args .sheet))) _ (l .loop .place) (speed-read (start .pre .0) (l .loop .place) (omega (arith, low)))
+      least-more (speedAt (viewOf (start .args .sheet))) _ (l .loop .place) (speed-read (start .pre .0) (l .loop .place) (omega (arith, low)))
           (c .before .before .cost .ensures) (l .loop .inv .2) (c .better .ensures),
     )
 
@@ -127,7 +127,7 @@ returns : tie.Need-returns Inv-loop μ-loop
 returns c =
     let l = c .before .before in
     let start = l .before .before .before .before .before .before in
-    least-whole (speedAt (counted (start .args .sheet))) _ (l .loop .place) (start .args .sheet .«speed_count»)
+    least-whole (speedAt (viewOf (start .args .sheet))) _ (l .loop .place) (start .args .sheet .«speed_count»)
     (omega (arith, l .loop .inv .1, c .if1 .left)) (l .loop .inv .2)
 
 pub choose-spec : {M : Type 1} → statement M

@@ -6,7 +6,7 @@ use native.Mathlib.Omega.{arith}
 use borrow.Author.Needs.{needs}
 use lib.ListN.{length, getD}
 use Rattle.process.specs.Recursion.{plus, times}
-use Rattle.model.specs.Counted.{counted, speedAt, energyAt}
+use Rattle.model.specs.View.{viewOf, speedAt, energyAt}
 use Rattle.queues.specs.Blocks.{queueWith, firstOf, lowestOf, numberIn}
 use Rattle.value.specs.Narrow.{width, valueOf}
 use Rattle.model.specs.Width.{valueIn}
@@ -42,7 +42,7 @@ line c =
 there : (c : tie.After-shared-slice-known5) →
     let a = c .before .before .before .before .before .before .before .before .before .before .before .args in
     let w = firstOf (a .sizes .largest) (a .sizes .bound) (a .block) in
-    let s = counted (a .sheet) in
+    let s = viewOf (a .sheet) in
     (getD (a .lanes .now) (c .before .before .before .before .before .before .before .before .line-at .result + 3 + a .place) 0 +
     c .before .above .result ≡
     laneOf (a .sizes .largest) (a .sizes .bound) w (speedAt s (a .place)) +
@@ -62,7 +62,7 @@ there c =
     let speed = speed-read given (a .place) (start .pre .3) in
     let from = c .before .before .larger .ensures ∙
     ap (λ (x : ℕ). max x (getD (a .lanes .now) (c .before .before .before .before .before .before .before .before .line-at .result + 1) 0))
-    speed ∙ ap (max (speedAt (counted (a .sheet)) (a .place))) lowest in
+    speed ∙ ap (max (speedAt (viewOf (a .sheet)) (a .place))) lowest in
     let low =
     found-low given (a .block) (inside .block-low) (a .last) inside (a .place) (start .pre .2) (start .pre .3)
     (omega (arith, c .before .before .before .before .if1 .left, most-before given, speed)) in
@@ -72,7 +72,7 @@ there c =
 told : (c : tie.After-shared-slice-known6) →
     let a = c .before .before .before .before .before .before .before .before .before .before .before .before .before .args in
     plus (valueOf (c .before .load .result)) (times (getD (a .lanes .now) (9 + a .place) 0) (valueOf (a .scale))) ≡
-    costAt width (a .sizes .largest) (a .sizes .bound) (counted (a .sheet)) (a .ahead .now) (valueOf (a .scale))
+    costAt width (a .sizes .largest) (a .sizes .bound) (viewOf (a .sheet)) (a .ahead .now) (valueOf (a .scale))
     (queueWith (a .sizes .largest) (a .sizes .bound) (numberIn (a .sizes .largest) (a .sizes .bound) (a .block) (a .last))) (a .place)
 told c =
     let start = c .before .before .before .before .before .before .before .before .before .before .before .before .before in
@@ -80,7 +80,7 @@ told c =
     let given = start .pre .0 in
     let inside = start .pre .1 in
     ap (λ (e : ℕ). plus (valueOf (c .before .load .result)) (times e (valueOf (a .scale)))) (energy-read given (a .place) (start .pre .3)) ∙
-    ap (λ (r : Option ℕ). plus r (times (energyAt (counted (a .sheet)) (a .place)) (valueOf (a .scale))))
+    ap (λ (r : Option ℕ). plus r (times (energyAt (viewOf (a .sheet)) (a .place)) (valueOf (a .scale))))
     (c .before .load .ensures ∙ ap (valueIn width (a .ahead .now)) (there (c .before .before) .0)) ∙
     sym
     (cost-there given (a .block) (inside .block-low) (a .last) inside (a .place) (start .pre .2) (start .pre .3)

@@ -2,7 +2,7 @@
 use Prim.Native.Nat.{_-_, _≤_}
 use native.Mathlib.Nat.{le-refl}
 use native.Mathlib.Omega.{arith}
-use Rattle.model.specs.Counted.{counted}
+use Rattle.model.specs.View.{viewOf}
 use Rattle.queues.specs.Blocks.{InBlocks}
 use Rattle.value.specs.Narrow.{width, valueOf}
 use Rattle.choose.specs.Pass.{LeftWhere}
@@ -13,7 +13,7 @@ use Rattle.choose.proofs.row.fill.Tie as tie
 abbrev Inv-loop : tie.InvT-loop
 Inv-loop sheet sizes scale lanes ahead this row values₀ plan₀ block₀ values plan block =
     (block ≤ sizes .after) ×
-    LeftWhere width (counted sheet) sizes (valueOf scale) ahead this row (InBlocks (sizes .largest) (sizes .bound) block) values₀ plan₀
+    LeftWhere width (viewOf sheet) sizes (valueOf scale) ahead this row (InBlocks (sizes .largest) (sizes .bound) block) values₀ plan₀
     values plan
 
 abbrev μ-loop : tie.MeasureT-loop
@@ -23,7 +23,7 @@ loop-holds : tie.Need-loop-holds Inv-loop μ-loop
 loop-holds c =
     let a = c .before .before .before .before .args in (
       omega arith,
-      left-begun width (counted (a .sheet)) (a .sizes) (valueOf (a .scale)) (a .ahead .now) (a .this) (a .row) (a .values .now)
+      left-begun width (viewOf (a .sheet)) (a .sizes) (valueOf (a .scale)) (a .ahead .now) (a .this) (a .row) (a .values .now)
           (a .plan .now),
     )
 
@@ -50,7 +50,7 @@ loop-again c =
     let a = start .args in
     let taken = c .before .before .before .before .before .before .before .if1 .taken in (
       omega (arith, taken),
-      left-block width (counted (a .sheet)) (a .sizes) (valueOf (a .scale)) (a .ahead .now) (a .this) (a .row) (l .loop .block)
+      left-block width (viewOf (a .sheet)) (a .sizes) (valueOf (a .scale)) (a .ahead .now) (a .this) (a .row) (l .loop .block)
           (block-low (start .pre .0) (l .loop .block) taken) _ (le-refl _) (l .loop .inv .1)
           (c .before .before .before .before .fill-block .ensures),
     )
@@ -66,7 +66,7 @@ returns c =
     let l = c .before .before in
     let start = l .before .before .before .before .before in
     let a = start .args in
-    left-whole width (counted (a .sheet)) (a .sizes) (valueOf (a .scale)) (a .ahead .now) (a .this) (a .row) (start .pre .0 .measured)
+    left-whole width (viewOf (a .sheet)) (a .sizes) (valueOf (a .scale)) (a .ahead .now) (a .this) (a .row) (start .pre .0 .measured)
     (l .loop .block)
     (omega (arith, l .loop .inv .0, c .if1 .left)) (l .loop .inv .1)
 

@@ -3,7 +3,7 @@ use Prim.Native.Nat.{ℕ, suc, _+_, _-_, _*_, _≤_}
 use mathlib.Core.Path.{_≡_, ap, _∙_, subst}
 use native.Mathlib.Omega.{arith}
 use lib.ListN.{length, getD}
-use Rattle.model.specs.Counted.{counted}
+use Rattle.model.specs.View.{viewOf}
 use Rattle.queues.specs.Blocks.{lowestOf, InBlock}
 use Rattle.value.specs.Narrow.{width, valueOf}
 use Rattle.rows.proofs.Room.{after-room, most-total}
@@ -15,7 +15,7 @@ use Rattle.choose.proofs.row.fill_block.Tie as tie
 abbrev Inv-loop : tie.InvT-loop
 Inv-loop sheet sizes scale lanes ahead block this row values₀ plan₀ end last₀ values plan last =
     (last₀ ≤ last) × (last ≤ suc end) × (last₀ ≡ lowestOf (sizes .largest) (sizes .bound) block) ×
-    LeftWhere width (counted sheet) sizes (valueOf scale) ahead this row (InBlock (sizes .largest) (sizes .bound) block last)
+    LeftWhere width (viewOf sheet) sizes (valueOf scale) ahead this row (InBlock (sizes .largest) (sizes .bound) block last)
     values₀ plan₀ values plan
 
 abbrev μ-loop : tie.MeasureT-loop
@@ -82,7 +82,7 @@ loop-holds c =
       omega arith,
       omega (arith, low, lowest-high (start .pre .0) (a .block) (start .pre .1)),
       low,
-      left-none width (counted (a .sheet)) (a .sizes) (valueOf (a .scale)) (a .ahead .now) (a .this) (a .row) (a .block)
+      left-none width (viewOf (a .sheet)) (a .sizes) (valueOf (a .scale)) (a .ahead .now) (a .this) (a .row) (a .block)
           (block-low (start .pre .0) (a .block) (start .pre .1)) (a .values .now) (a .plan .now) low,
     )
 
@@ -114,7 +114,7 @@ loop-again c =
       omega (arith, l .loop .inv .0),
       omega (arith, t .loop-test .taken),
       l .loop .inv .2,
-      left-more width (counted (a .sheet)) (a .sizes) (valueOf (a .scale)) (a .ahead .now) (a .this) (a .row) (a .block)
+      left-more width (viewOf (a .sheet)) (a .sizes) (valueOf (a .scale)) (a .ahead .now) (a .this) (a .row) (a .block)
           (block-low (start .pre .0) (a .block) (start .pre .1)) (l .loop .last) (inside .last-low) (inside .last-high) (l .loop .inv .3)
           (c .before .before .before .before .fill-queue .ensures),
     )
@@ -131,7 +131,7 @@ returns c =
     let a = begun l .args in
     let all : l .loop .last ≡ suc (a .sizes .bound * a .sizes .largest) = omega (arith, l .loop .inv .1, c .loop-test .left) in
     subst
-    (λ (x : ℕ). LeftWhere width (counted (a .sheet)) (a .sizes) (valueOf (a .scale)) (a .ahead .now) (a .this) (a .row)
+    (λ (x : ℕ). LeftWhere width (viewOf (a .sheet)) (a .sizes) (valueOf (a .scale)) (a .ahead .now) (a .this) (a .row)
     (InBlock (a .sizes .largest) (a .sizes .bound) (a .block) x) (a .values .now) (a .plan .now) (l .loop .values) (l .loop .plan))
     all (l .loop .inv .3)
 

@@ -4,7 +4,7 @@ use mathlib.Core.Path.{_≡_, ap, _∙_}
 use native.Mathlib.Omega.{arith}
 use borrow.Author.Needs.{needs}
 use lib.ListN.{length, getD}
-use Rattle.model.specs.Counted.{counted}
+use Rattle.model.specs.View.{viewOf}
 use Rattle.queues.specs.Blocks.{lowestOf, numberIn}
 use Rattle.value.specs.Narrow.{width, valueOf}
 use Rattle.buffers.proofs.Filling.{fewer-fit}
@@ -136,7 +136,7 @@ returns c =
     let start = c .before .before .before .before .before .before .before .before .before .before .before .before .before in
     let a = start .args in
     let at = c .before .before .before .before .before .before .before .before in
-    left-stored width (counted (a .sheet)) (a .sizes) (valueOf (a .scale)) (a .ahead .now) (a .this) (a .row) (number at)
+    left-stored width (viewOf (a .sheet)) (a .sizes) (valueOf (a .scale)) (a .ahead .now) (a .this) (a .row) (number at)
     (c .before .before .before .before .before .choose .ensures) (c .before .before .before .store .ensures)
     (omega (arith, low at, start .pre .3))
 

@@ -30,27 +30,27 @@ feed-fits : (x : ℕ) {at next : ℕ} {before after : List ℕ} → x < 10 ^ 20 
 feed-fits x h at-word room laid =
     omega (arith, laid .next-is, laid-length laid, digits-upto 20 20 x (omega arith) h)
 
-slice-aggregate-put-text : tie.Need-slice-aggregate-put-text
-slice-aggregate-put-text c = search needs
+slice-aggregate-lay : tie.Need-slice-aggregate-lay
+slice-aggregate-lay c = search needs
 
-put-text-requires : tie.Need-put-text-requires
-put-text-requires c κs = search needs
+lay-requires : tie.Need-lay-requires
+lay-requires c κs = search needs
 
 put-decimal-requires : tie.Need-put-decimal-requires
 put-decimal-requires c κs =
     let word = c .before .before .before in
-    any-fits _ (omega arith) (omega (arith, word .put-text .ensures .next-is))
-    (omega (arith, word .put-text .kept .0, word .before .before .before .before .pre))
+    any-fits _ (omega arith) (omega (arith, word .lay .ensures .next-is))
+    (omega (arith, word .lay .kept .0, word .before .before .before .before .pre))
 
-slice-aggregate-put-text-2 : tie.Need-slice-aggregate-put-text-2
-slice-aggregate-put-text-2 c = search needs
+slice-aggregate-lay-2 : tie.Need-slice-aggregate-lay-2
+slice-aggregate-lay-2 c = search needs
 
-put-text-requires-2 : tie.Need-put-text-requires-2
-put-text-requires-2 c κs =
+lay-requires-2 : tie.Need-lay-requires-2
+lay-requires-2 c κs =
     let number = c .before .before .before .before in
     let word = number .before .before .before .before in
-    feed-fits _ (omega arith) (omega (arith, word .put-text .ensures .next-is))
-    (omega (arith, word .put-text .kept .0, word .before .before .before .before .pre)) (number .put-decimal .ensures)
+    feed-fits _ (omega arith) (omega (arith, word .lay .ensures .next-is))
+    (omega (arith, word .lay .kept .0, word .before .before .before .before .pre)) (number .put-decimal .ensures)
 
 same-length : tie.Need-same-length
 same-length c = search needs
@@ -62,17 +62,17 @@ returns c =
     let number = feed .before .before .before .before .before in
     let word = number .before .before .before .before in
     let start = word .before .before .before .before in
-    let line = laid-then {l = text "refused "} (word .put-text .ensures) (laid-then (number .put-decimal .ensures) (feed .put-text2 .ensures)) in
+    let line = laid-then {l = text "refused "} (word .lay .ensures) (laid-then (number .put-decimal .ensures) (feed .lay2 .ensures)) in
     (line, omega (arith, line .next-is, enough start))
 
 pub put-refused-spec : {M : Type 1} → statement M
 put-refused-spec =
     tie.close
     (tie.spec
-    slice-aggregate-put-text
-    put-text-requires
+    slice-aggregate-lay
+    lay-requires
     put-decimal-requires
-    slice-aggregate-put-text-2
-    put-text-requires-2
+    slice-aggregate-lay-2
+    lay-requires-2
     same-length
     returns)

@@ -3,7 +3,7 @@ use Prim.Native.Nat.{ℕ, _-_, _≤_}
 use mathlib.Core.Path.{_≡_, refl, sym, ap, _∙_, subst}
 use native.Mathlib.Omega.{arith}
 use lib.ListN.{length}
-use Rattle.model.specs.Counted.{counted, weightAt, sizeAt, deadlineAt}
+use Rattle.model.specs.View.{viewOf, weightAt, sizeAt, deadlineAt}
 use Rattle.model.specs.declared.Job.{Job}
 use Rattle.model.proofs.Refusal.{Ranged, ranged}
 use Rattle.limits.proofs.Places.{job-counts}
@@ -16,14 +16,14 @@ use Rattle.entry_lanes.proofs.table.fill_entries.Tie as tie
 abbrev Inv-loop : tie.InvT-loop
 Inv-loop bound lanes₀ sheet place₀ lanes place =
     (place ≤ sheet .«job_count») × (length lanes ≡ length lanes₀) ×
-    Columns 32 place (weightAt (counted sheet)) (λ j. liftOf bound (sizeAt (counted sheet) j) (deadlineAt (counted sheet) j)) lanes
+    Columns 32 place (weightAt (viewOf sheet)) (λ j. liftOf bound (sizeAt (viewOf sheet) j) (deadlineAt (viewOf sheet) j)) lanes
 
 abbrev μ-loop : tie.MeasureT-loop
 μ-loop bound lanes₀ sheet place₀ lanes place = sheet .«job_count» - place
 
 -- the sheet keeps its ranges
-in-range : (c : tie.Start Inv-loop μ-loop) → Ranged (counted (c .args .t1))
-in-range c = ranged (counted (c .args .t1)) (c .pre .0)
+in-range : (c : tie.Start Inv-loop μ-loop) → Ranged (viewOf (c .args .t1))
+in-range c = ranged (viewOf (c .args .t1)) (c .pre .0)
 
 loop-holds : tie.Need-loop-holds Inv-loop μ-loop
 loop-holds c = (omega arith, refl, columns-none 32 _ _ _)
@@ -59,7 +59,7 @@ loop-again : tie.Need-loop-again Inv-loop μ-loop
 loop-again c =
     let l = c .before .before .before .before .before .before .before in
     let a = l .before .before .args in
-    let s = counted (a .t1) in
+    let s = viewOf (a .t1) in
     let one = job-counts (a .t1) (l .loop .place) (c .before .before .before .before .before .before .loop-test .taken) in
     let put = c .before .before .put-pair .ensures in (
       omega arith,
@@ -76,7 +76,7 @@ returns : tie.Need-returns Inv-loop μ-loop
 returns c =
     let l = c .before .loop in
     let a = c .before .before .before .args in
-    let s = counted (a .t1) in
+    let s = viewOf (a .t1) in
     let all : l .place ≡ a .t1 .«job_count» = omega arith in
     subst (λ (n : ℕ). Columns 32 n (weightAt s) (λ j. liftOf (a .bound) (sizeAt s j) (deadlineAt s j)) (l .lanes)) all (l .inv .2)
 

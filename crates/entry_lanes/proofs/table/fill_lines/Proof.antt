@@ -1,7 +1,7 @@
 -- `fill_lines` meets its contract. The loop's invariant: the lines of the blocks passed are put.
 use Prim.Native.Nat.{_-_, _≤_}
 use native.Mathlib.Omega.{arith}
-use Rattle.model.specs.Counted.{counted}
+use Rattle.model.specs.View.{viewOf}
 use Rattle.rows.specs.Tables.{LinesPut}
 use Rattle.rows.proofs.Tables.{put-none, put-more, put-all}
 use Rattle.entry_lanes.specs.Lanes.{entryLine}
@@ -11,7 +11,7 @@ use Rattle.entry_lanes.proofs.table.fill_lines.Tie as tie
 abbrev Inv-loop : tie.InvT-loop
 Inv-loop counts sheet sizes lanes₀ block₀ lanes block =
     (block ≤ sizes .blocks) ×
-    LinesPut 32 (sheet .«job_count») block (entryLine (sizes .largest) (sizes .bound) (counted sheet)) lanes₀ lanes
+    LinesPut 32 (sheet .«job_count») block (entryLine (sizes .largest) (sizes .bound) (viewOf sheet)) lanes₀ lanes
 
 abbrev μ-loop : tie.MeasureT-loop
 μ-loop counts sheet sizes lanes₀ block₀ lanes block = sizes .blocks - block

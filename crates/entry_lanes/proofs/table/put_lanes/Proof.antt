@@ -3,7 +3,7 @@ use Prim.Native.Nat.{_-_, _≤_}
 use mathlib.Core.Path.{_≡_, refl, sym, ap, _∙_, subst}
 use native.Mathlib.Omega.{arith}
 use lib.ListN.{length}
-use Rattle.model.specs.Counted.{counted}
+use Rattle.model.specs.View.{viewOf}
 use Rattle.model.specs.Queue.{queueIn, arrive}
 use Rattle.model.specs.declared.Job.{Job}
 use Rattle.model.proofs.Refusal.{Ranged, ranged}
@@ -18,14 +18,14 @@ use Rattle.entry_lanes.proofs.table.put_lanes.Tie as tie
 abbrev Inv-loop : tie.InvT-loop
 Inv-loop counts sizes queue at lanes₀ sheet place₀ lanes place =
     (place ≤ sheet .«job_count») ×
-    Fills 1 numberAt (λ j. laneOf (sizes .largest) (joined (counted sheet) (queueIn (sizes .bound) queue) j)) at place lanes₀ lanes
+    Fills 1 numberAt (λ j. laneOf (sizes .largest) (joined (viewOf sheet) (queueIn (sizes .bound) queue) j)) at place lanes₀ lanes
 
 abbrev μ-loop : tie.MeasureT-loop
 μ-loop counts sizes queue at lanes₀ sheet place₀ lanes place = sheet .«job_count» - place
 
 -- the sheet keeps its ranges
-in-range : (c : tie.Start Inv-loop μ-loop) → Ranged (counted (c .args .t2))
-in-range c = ranged (counted (c .args .t2)) (c .pre .2)
+in-range : (c : tie.Start Inv-loop μ-loop) → Ranged (viewOf (c .args .t2))
+in-range c = ranged (viewOf (c .args .t2)) (c .pre .2)
 
 loop-holds : tie.Need-loop-holds Inv-loop μ-loop
 loop-holds c = (omega arith, fills-none 1 numberAt _ (c .before .args .at) (c .before .args .lanes .now))

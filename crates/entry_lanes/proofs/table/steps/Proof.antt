@@ -4,7 +4,7 @@ use mathlib.Core.Path.{_≡_, sym, ap, _∙_, subst}
 use native.Mathlib.Nat.{le-refl, mul-le-mul-right}
 use native.Mathlib.Omega.{arith}
 use lib.ListN.{length}
-use Rattle.model.specs.Counted.{counted}
+use Rattle.model.specs.View.{viewOf}
 use Rattle.model.specs.Queue.{total, queueIn, arrive}
 use Rattle.model.specs.declared.Job.{Job}
 use Rattle.model.proofs.Refusal.{Ranged, ranged}
@@ -20,14 +20,14 @@ use Rattle.entry_lanes.proofs.table.steps.Tie as tie
 abbrev Inv-loop : tie.InvT-loop
 Inv-loop sizes queue sheet most least₀ place₀ least place =
     (place ≤ sheet .«job_count») ×
-    (least ≡ stepsTo (sizes .largest) (sizes .bound) (counted sheet) (queueIn (sizes .bound) queue) place)
+    (least ≡ stepsTo (sizes .largest) (sizes .bound) (viewOf sheet) (queueIn (sizes .bound) queue) place)
 
 abbrev μ-loop : tie.MeasureT-loop
 μ-loop sizes queue sheet most least₀ place₀ least place = sheet .«job_count» - place
 
 -- the sheet keeps its ranges
-in-range : (c : tie.Start Inv-loop μ-loop) → Ranged (counted (c .args .t1))
-in-range c = ranged (counted (c .args .t1)) (c .pre .1)
+in-range : (c : tie.Start Inv-loop μ-loop) → Ranged (viewOf (c .args .t1))
+in-range c = ranged (viewOf (c .args .t1)) (c .pre .1)
 
 -- what the loop begins with
 began : (c : tie.After-total Inv-loop μ-loop) →
@@ -68,7 +68,7 @@ loop-holds c =
     let start = c .before .before .before .before in
     let a = start .args in (
       omega arith,
-      omega (arith, began c) ∙ steps-begun (a .sizes .largest) (a .sizes .bound) (counted (a .t1)) (queueIn (a .sizes .bound) (a .queue)),
+      omega (arith, began c) ∙ steps-begun (a .sizes .largest) (a .sizes .bound) (viewOf (a .t1)) (queueIn (a .sizes .bound) (a .queue)),
     )
 
 cast-one : tie.Need-cast-one Inv-loop μ-loop
@@ -110,7 +110,7 @@ loop-again c =
     let w = queueIn (a .sizes .bound) (a .queue) in
     let six : length (a .queue) ≡ 6 = omega (arith, start .good) in (
       omega arith,
-      steps-more (a .sizes .largest) (a .sizes .bound) (counted (a .t1)) w (l .loop .place) (l .loop .inv .1)
+      steps-more (a .sizes .largest) (a .sizes .bound) (viewOf (a .t1)) w (l .loop .place) (l .loop .inv .1)
           (c .before .steps-of .ensures ∙
           ap (stepsOf (a .sizes .largest) (a .sizes .bound))
           (joined-in (a .sizes .bound) (a .queue) _ _ (start .pre .0 .ranges .bound-high)
@@ -125,7 +125,7 @@ returns c =
     let l = c .before in
     let a = l .before .before .before .before .before .args in
     let all : l .loop .place ≡ a .t1 .«job_count» = omega arith in
-    l .loop .inv .1 ∙ ap (stepsTo (a .sizes .largest) (a .sizes .bound) (counted (a .t1)) (queueIn (a .sizes .bound) (a .queue))) all
+    l .loop .inv .1 ∙ ap (stepsTo (a .sizes .largest) (a .sizes .bound) (viewOf (a .t1)) (queueIn (a .sizes .bound) (a .queue))) all
 
 pub steps-spec : {M : Type 1} → statement M
 steps-spec =

@@ -5,7 +5,7 @@ use native.Mathlib.Omega.{arith}
 use borrow.Author.Needs.{needs}
 use lib.ListN.{length}
 use Rattle.laws.proofs.Rooms.{row-accepted, row-none, row-past, row-part}
-use Rattle.model.specs.Counted.{counted}
+use Rattle.model.specs.View.{viewOf}
 use Rattle.model.specs.Plan.{rowRefusal}
 use Rattle.model.proofs.Refusal.{fields-right}
 use Rattle.model.specs.Refusal.{valueLimit}
@@ -17,7 +17,7 @@ use Rattle.layout.proofs.call.row.Tie as tie
 -- behind the first test the call is not refused
 passed : (c : tie.Else1) →
     let a = c .before .before .before .before .before .args in
-    rowRefusal (counted (a .sheet)) (length (a .plan .now)) ≡ 0
+    rowRefusal (viewOf (a .sheet)) (length (a .plan .now)) ≡ 0
 passed c = sym (c .before .row-refusal .ensures) ∙ c .if1 .left
 
 -- and behind the second one the slot's row is within the plan
@@ -27,7 +27,7 @@ within : (c : tie.After-sizes-of) →
 within c =
     let told = c .before .before in
     let a = told .before .before .before .before .before .before .before .args in
-    row-within (counted (a .sheet)) (c .sizes-of .ensures) (a .plan .now) (a .slot) (passed (told .before .before)) (told .if2 .left)
+    row-within (viewOf (a .sheet)) (c .sizes-of .ensures) (a .plan .now) (a .slot) (passed (told .before .before)) (told .if2 .left)
 
 table-requires : tie.Need-table-requires
 table-requires c κs = search needs
@@ -41,7 +41,7 @@ slice-aggregate-result c = search needs
 returns : tie.Need-returns
 returns c =
     let a = c .before .before .before .before .before .before .args in
-    row-none (counted (a .sheet)) (a .plan .now) (a .slot) (c .before .before .row-refusal .ensures) (c .before .if1 .taken)
+    row-none (viewOf (a .sheet)) (a .plan .now) (a .slot) (c .before .before .row-refusal .ensures) (c .before .if1 .taken)
 
 slice-aggregate-result-2 : tie.Need-slice-aggregate-result-2
 slice-aggregate-result-2 c = search needs
@@ -49,13 +49,13 @@ slice-aggregate-result-2 c = search needs
 returns-2 : tie.Need-returns-2
 returns-2 c =
     let a = c .before .before .before .before .before .before .before .before .args in
-    row-past (counted (a .sheet)) (a .plan .now) (a .slot) (omega (arith, c .before .if2 .taken))
+    row-past (viewOf (a .sheet)) (a .plan .now) (a .slot) (omega (arith, c .before .if2 .taken))
 
 sizes-of-requires : tie.Need-sizes-of-requires
 sizes-of-requires c κs =
     let told = c .before .before .before in
     let table = told .before .before .before in
-    let s = counted (table .before .before .args .sheet) in
+    let s = viewOf (table .before .before .args .sheet) in
     (table .table .ensures, fields-right valueLimit s (row-accepted s _ (passed told) .0))
 
 place-requires : tie.Need-place-requires
@@ -78,7 +78,7 @@ returns-3 c =
     let sizes = c .before .before .before in
     let told = sizes .before .before in
     let a = told .before .before .before .before .before .before .before .args in
-    let s = counted (a .sheet) in
+    let s = viewOf (a .sheet) in
     row-part s (a .plan .now) (a .slot) (passed (told .before .before)) (told .if2 .left)
     (c .before .before .place .ensures ∙ place-is s (sizes .sizes-of .ensures) (a .slot) 0) (sizes .sizes-of .ensures .queues-is)
 

@@ -28,7 +28,7 @@ fromSlot start = decimal (start .args .slot) ++ fromColon start
 abbrev start1 : tie.After-put-decimal → tie.Start
 start1 c = c .before .before .before .before
 
-abbrev start2 : tie.After-put-text → tie.Start
+abbrev start2 : tie.After-lay → tie.Start
 start2 c = start1 (c .before .before .before .before .before)
 
 -- where a part begins, there is room for the line from it on
@@ -40,20 +40,20 @@ room-slot c = c .pre .1
 room-colon : (c : tie.After-put-decimal) → c .put-decimal .result + length (fromColon (start1 c)) ≤ length (c .put-decimal .last .0)
 room-colon c = room-then _ (c .put-decimal .ensures) (room-slot (start1 c))
 
-room-bytes : (c : tie.After-put-text) → c .put-text .result + length (fromBytes (start2 c)) ≤ length (c .put-text .last .0)
+room-bytes : (c : tie.After-lay) → c .lay .result + length (fromBytes (start2 c)) ≤ length (c .lay .last .0)
 room-bytes c =
-    room-then {l = text ":"} (fromBytes (start2 c)) (c .put-text .ensures) (room-colon (c .before .before .before .before .before))
+    room-then {l = text ":"} (fromBytes (start2 c)) (c .lay .ensures) (room-colon (c .before .before .before .before .before))
 
 put-decimal-requires : tie.Need-put-decimal-requires
 put-decimal-requires c κs =
     let start = c .before .before .before in
     room-first _ _ (decimal (start .args .slot)) (fromColon start) (room-slot start)
 
-slice-aggregate-put-text : tie.Need-slice-aggregate-put-text
-slice-aggregate-put-text c = search needs
+slice-aggregate-lay : tie.Need-slice-aggregate-lay
+slice-aggregate-lay c = search needs
 
-put-text-requires : tie.Need-put-text-requires
-put-text-requires c κs =
+lay-requires : tie.Need-lay-requires
+lay-requires c κs =
     let slot = c .before .before .before .before in
     room-first _ _ (text ":") (fromBytes (start1 slot)) (room-colon slot)
 
@@ -63,11 +63,11 @@ put-bytes-requires c κs =
     let start = start2 colon in
     (start .pre .0, room-first _ _ (bytes start) (text "\n") (room-bytes colon))
 
-slice-aggregate-put-text-2 : tie.Need-slice-aggregate-put-text-2
-slice-aggregate-put-text-2 c = search needs
+slice-aggregate-lay-2 : tie.Need-slice-aggregate-lay-2
+slice-aggregate-lay-2 c = search needs
 
-put-text-requires-2 : tie.Need-put-text-requires-2
-put-text-requires-2 c κs =
+lay-requires-2 : tie.Need-lay-requires-2
+lay-requires-2 c κs =
     let row = c .before .before .before .before in
     room-then (text "\n") (row .put-bytes .ensures) (room-bytes (row .before .before .before .before))
 
@@ -81,8 +81,8 @@ returns c =
     let row = feed .before .before .before .before .before in
     let colon = row .before .before .before .before in
     let slot = colon .before .before .before .before .before in
-    let from-bytes = laid-then (row .put-bytes .ensures) (feed .put-text2 .ensures) in
-    let from-colon = laid-then {l = text ":"} (colon .put-text .ensures) from-bytes in
+    let from-bytes = laid-then (row .put-bytes .ensures) (feed .lay2 .ensures) in
+    let from-colon = laid-then {l = text ":"} (colon .lay .ensures) from-bytes in
     laid-then (slot .put-decimal .ensures) from-colon
 
 pub put-line-spec : {M : Type 1} → statement M
@@ -90,10 +90,10 @@ put-line-spec =
     tie.close
     (tie.spec
     put-decimal-requires
-    slice-aggregate-put-text
-    put-text-requires
+    slice-aggregate-lay
+    lay-requires
     put-bytes-requires
-    slice-aggregate-put-text-2
-    put-text-requires-2
+    slice-aggregate-lay-2
+    lay-requires-2
     same-length
     returns)

@@ -5,7 +5,7 @@ use borrow.Author.Needs.{needs}
 use lib.ListN.{length}
 use Rattle.model.proofs.Refusal.{fields-right}
 use Rattle.laws.proofs.Rooms.{row-accepted}
-use Rattle.model.specs.Counted.{Counted, counted}
+use Rattle.model.specs.View.{View, viewOf}
 use Rattle.model.specs.Plan.{rowRefusal}
 use Rattle.model.specs.Refusal.{sheetRefusal, valueLimit}
 use Rattle.lines.specs.Lines.{HasRows}
@@ -18,8 +18,8 @@ use Rattle.listing.proofs.call.list.Tie as tie
 abbrev start : tie.Else1 → tie.Start
 start c = c .before .before .before .before .before .before
 
-abbrev sheet : tie.Else1 → Counted
-sheet c = counted (start c .args .sheet)
+abbrev sheet : tie.Else1 → View
+sheet c = viewOf (start c .args .sheet)
 
 -- they refuse nothing
 accepted : (c : tie.Else1) → rowRefusal (sheet c) (length (start c .args .plan .now)) ≡ 0
@@ -42,7 +42,7 @@ row-refusal-requires c κs = search needs
 returns : tie.Need-returns
 returns c =
     let a = c .before .before .before .before .before .before .args in
-    listing-refused (counted (a .sheet)) (a .least) (a .plan .now) (a .buffer .now) (c .before .row-refusal .ensures) (c .if1 .taken)
+    listing-refused (viewOf (a .sheet)) (a .least) (a .plan .now) (a .buffer .now) (c .before .row-refusal .ensures) (c .if1 .taken)
 
 sizes-of-requires : tie.Need-sizes-of-requires
 sizes-of-requires c κs =

@@ -7,7 +7,7 @@ use lib.ListN.{length}
 use Rattle.model.proofs.Refusal.{accepted, fields-right}
 use Rattle.layout.proofs.Within.{place-is}
 use Rattle.laws.proofs.Rooms.{plan-accepted}
-use Rattle.model.specs.Counted.{Counted, counted}
+use Rattle.model.specs.View.{View, viewOf}
 use Rattle.model.specs.Plan.{planRefusal, valuePlaces}
 use Rattle.model.specs.Refusal.{sheetRefusal}
 use Rattle.value.specs.Narrow.{width}
@@ -18,8 +18,8 @@ use Rattle.planner.proofs.calls.plan.Statement.{statement}
 use Rattle.planner.proofs.calls.plan.Tie as tie
 
 -- the sheet, as it is known behind the test
-abbrev sheet : tie.Else1 → Counted
-sheet c = counted (c .before .before .before .before .before .before .args .sheet)
+abbrev sheet : tie.Else1 → View
+sheet c = viewOf (c .before .before .before .before .before .before .args .sheet)
 
 -- there the call is not refused
 passed : (c : tie.Else1) →
@@ -52,7 +52,7 @@ returns : tie.Need-returns
 returns c =
     let a = c .before .before .before .before .before .before .before .args in
     let answer = c .refused .ensures in
-    refused-plan (counted (a .sheet)) (a .values .now) (a .plan .now) (c .before .before .plan-refusal .ensures) (c .before .if1 .taken)
+    refused-plan (viewOf (a .sheet)) (a .values .now) (a .plan .now) (c .before .before .plan-refusal .ensures) (c .before .if1 .taken)
     (answer .0) (answer .1) (answer .2)
 
 sizes-of-requires : tie.Need-sizes-of-requires

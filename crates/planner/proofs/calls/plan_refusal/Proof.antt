@@ -7,7 +7,7 @@ use borrow.Author.Tests.{leb-true, leb-false}
 use Rattle.model.proofs.Refusal.{accepted, fields-right}
 use Rattle.layout.proofs.Within.{place-is}
 use Rattle.laws.proofs.Rooms.{plan-refused, plan-short-values, plan-short-plan, plan-fits}
-use Rattle.model.specs.Counted.{counted}
+use Rattle.model.specs.View.{viewOf}
 use Rattle.model.specs.Refusal.{sheetRefusal}
 use Rattle.ranges.proofs.Answers.{passed-by, failed-by}
 use Rattle.value.specs.Narrow.{width}
@@ -17,13 +17,13 @@ use Rattle.planner.proofs.calls.plan_refusal.Statement.{statement}
 use Rattle.planner.proofs.calls.plan_refusal.Tie as tie
 
 -- behind the first test the sheet is accepted
-passed : (c : tie.Else1) → sheetRefusal (width .limit) (counted (c .before .before .args .sheet)) ≡ 0
+passed : (c : tie.Else1) → sheetRefusal (width .limit) (viewOf (c .before .before .args .sheet)) ≡ 0
 passed c = sym (c .before .sheet-refusal .ensures) ∙ c .if1 .left
 
 -- so that its queues and its slots are few
 small : (c : tie.After-sizes-of) → (c .sizes-of .result .queues ≤ 65535) × (c .before .before .before .args .sheet .horizon ≤ 200)
 small c =
-    let s = counted (c .before .before .before .args .sheet) in
+    let s = viewOf (c .before .before .before .args .sheet) in
     sizes-small s (accepted s (passed (c .before))) (c .sizes-of .ensures)
 
 sheet-refusal-requires : tie.Need-sheet-refusal-requires
@@ -32,12 +32,12 @@ sheet-refusal-requires c κs = search needs
 returns : tie.Need-returns
 returns c =
     let a = c .before .before .args in
-    plan-refused (counted (a .sheet)) width (a .values-room) (a .plan-room) (c .before .sheet-refusal .ensures) (c .if1 .taken)
+    plan-refused (viewOf (a .sheet)) width (a .values-room) (a .plan-room) (c .before .sheet-refusal .ensures) (c .if1 .taken)
 
 sizes-of-requires : tie.Need-sizes-of-requires
 sizes-of-requires c κs =
     let start = c .before .before in
-    (start .pre, fields-right (width .limit) (counted (start .args .sheet)) (passed c))
+    (start .pre, fields-right (width .limit) (viewOf (start .args .sheet)) (passed c))
 
 place-requires : tie.Need-place-requires
 place-requires c κs = (small c .0, omega (arith, small c .1), omega (arith, small c .0))
@@ -49,7 +49,7 @@ returns-2 : tie.Need-returns-2
 returns-2 c =
     let sizes = c .before .before .before in
     let a = sizes .before .before .before .args in
-    let s = counted (a .sheet) in
+    let s = viewOf (a .sheet) in
     plan-short-values s width (a .values-room) (a .plan-room) (passed (sizes .before))
     (omega (
       arith,
@@ -66,7 +66,7 @@ returns-3 : tie.Need-returns-3
 returns-3 c =
     let sizes = c .before .before .before .before .before in
     let a = sizes .before .before .before .args in
-    let s = counted (a .sheet) in
+    let s = viewOf (a .sheet) in
     plan-short-plan s width (a .values-room) (a .plan-room) (passed (sizes .before))
     (omega (arith, c .if3 .taken, c .before .place2 .ensures ∙ place-is s (sizes .sizes-of .ensures) (s .horizon) 0))
 
@@ -75,7 +75,7 @@ returns-4 c =
     let fitted = c .before .before in
     let sizes = fitted .before .before .before in
     let a = sizes .before .before .before .args in
-    let s = counted (a .sheet) in
+    let s = viewOf (a .sheet) in
     plan-fits s width (a .values-room) (a .plan-room) (passed (sizes .before))
     (omega (
       arith,

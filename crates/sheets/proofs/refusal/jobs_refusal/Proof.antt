@@ -3,14 +3,14 @@ use Prim.Native.Nat.{_≤_, _-_}
 use mathlib.Core.Path.{_≡_, refl, sym, ap, _∙_}
 use native.Mathlib.Omega.{arith}
 use Rattle.model.proofs.Tests.{in-order-more, in-order-first}
-use Rattle.model.specs.Counted.{counted}
+use Rattle.model.specs.View.{viewOf}
 use Rattle.model.specs.Refusal.{jobsRefusal, jobsLines}
 use Rattle.model.specs.Tests.{inOrder}
 use Rattle.sheets.proofs.refusal.jobs_refusal.Statement.{statement}
 use Rattle.sheets.proofs.refusal.jobs_refusal.Tie as tie
 
 abbrev Inv-loop : tie.InvT-loop
-Inv-loop sheet place₀ place = (place ≤ sheet .«job_count») × (jobsRefusal (counted sheet) place ≡ 0)
+Inv-loop sheet place₀ place = (place ≤ sheet .«job_count») × (jobsRefusal (viewOf sheet) place ≡ 0)
 
 abbrev μ-loop : tie.MeasureT-loop
 μ-loop sheet place₀ place = sheet .«job_count» - place
@@ -48,7 +48,7 @@ returns-2 c =
     let sheet = c .before .before .before .args .sheet in
     let l = c .before .before .loop in
     let all : l .place ≡ sheet .«job_count» = omega arith in
-    sym (sym (ap (jobsRefusal (counted sheet)) all) ∙ l .inv .1)
+    sym (sym (ap (jobsRefusal (viewOf sheet)) all) ∙ l .inv .1)
 
 pub jobs-refusal-spec : {M : Type 1} → statement M
 jobs-refusal-spec =

@@ -4,7 +4,7 @@ use Prim.Native.Nat.{ℕ, pred}
 use mathlib.Core.Path.{refl, sym, ap, _∙_}
 use native.Mathlib.Omega.{arith}
 use borrow.Author.Needs.{needs}
-use Rattle.model.specs.Counted.{counted, M}
+use Rattle.model.specs.View.{viewOf, M}
 use Rattle.model.specs.Queue.{queueCount}
 use Rattle.model.proofs.Refusal.{ranged, N-is}
 use Rattle.queues.proofs.Bounds.{ranges-of}
@@ -23,13 +23,13 @@ one-fewer-requires c κs = search needs
 queue-count-requires : tie.Need-queue-count-requires
 queue-count-requires c κs =
     let start = c .before .before .before in
-    let right = ranged (counted (start .args .sheet)) (start .pre .1) in
+    let right = ranged (viewOf (start .args .sheet)) (start .pre .1) in
     (start .pre .0, ranges-of right (c .before .before .greatest-of .ensures .0) (omega arith))
 
 queue-count-requires-2 : tie.Need-queue-count-requires-2
 queue-count-requires-2 c κs =
     let start = c .before .before .before .before in
-    let right = ranged (counted (start .args .sheet)) (start .pre .1) in
+    let right = ranged (viewOf (start .args .sheet)) (start .pre .1) in
     (start .pre .0, ranges-of right (c .before .before .before .greatest-of .ensures .0) (omega (arith, c .before .one-fewer .ensures)))
 
 one-fewer-requires-2 : tie.Need-one-fewer-requires-2
@@ -38,7 +38,7 @@ one-fewer-requires-2 c κs = search needs
 queue-count-requires-3 : tie.Need-queue-count-requires-3
 queue-count-requires-3 c κs =
     let start = c .before .before .before .before .before .before in
-    let right = ranged (counted (start .args .sheet)) (start .pre .1) in (
+    let right = ranged (viewOf (start .args .sheet)) (start .pre .1) in (
       start .pre .0,
       ranges-of right (c .before .before .before .before .before .greatest-of .ensures .0)
           (omega (arith, c .before .before .before .one-fewer .ensures, c .one-fewer2 .ensures)),
@@ -47,7 +47,7 @@ queue-count-requires-3 c κs =
 returns : tie.Need-returns
 returns c =
     let start = c .before .before .before .before .before .before .before in
-    let s = counted (start .args .sheet) in
+    let s = viewOf (start .args .sheet) in
     let most = c .before .before .before .before .before .before .greatest-of .ensures .0 in
     let fewer = c .before .before .before .before .one-fewer .ensures in
     record {

@@ -1,7 +1,7 @@
 -- `fill_lines` meets its contract. The loop's invariant: the lines of the blocks passed are put.
 use Prim.Native.Nat.{_-_, _≤_}
 use native.Mathlib.Omega.{arith}
-use Rattle.model.specs.Counted.{counted}
+use Rattle.model.specs.View.{viewOf}
 use Rattle.rows.specs.Tables.{LinesPut}
 use Rattle.rows.proofs.Tables.{put-none, put-more, put-all}
 use Rattle.speed_lanes.specs.Lanes.{speedLine}
@@ -11,7 +11,7 @@ use Rattle.speed_lanes.proofs.table.fill_lines.Tie as tie
 abbrev Inv-loop : tie.InvT-loop
 Inv-loop counts sheet sizes lanes₀ block₀ lanes block =
     (block ≤ sizes .after) ×
-    LinesPut 9 (sheet .«speed_count») block (speedLine (sizes .largest) (sizes .bound) (counted sheet)) lanes₀ lanes
+    LinesPut 9 (sheet .«speed_count») block (speedLine (sizes .largest) (sizes .bound) (viewOf sheet)) lanes₀ lanes
 
 abbrev μ-loop : tie.MeasureT-loop
 μ-loop counts sheet sizes lanes₀ block₀ lanes block = sizes .after - block

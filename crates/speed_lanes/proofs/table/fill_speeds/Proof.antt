@@ -3,7 +3,7 @@ use Prim.Native.Nat.{ℕ, _-_, _≤_}
 use mathlib.Core.Path.{_≡_, refl, ap, _∙_, subst}
 use native.Mathlib.Omega.{arith}
 use lib.ListN.{length}
-use Rattle.model.specs.Counted.{counted, speedAt, energyAt}
+use Rattle.model.specs.View.{viewOf, speedAt, energyAt}
 use Rattle.model.specs.declared.Speed.{Speed}
 use Rattle.model.proofs.Refusal.{Ranged, ranged}
 use Rattle.limits.proofs.Places.{speed-counts}
@@ -15,14 +15,14 @@ use Rattle.speed_lanes.proofs.table.fill_speeds.Tie as tie
 abbrev Inv-loop : tie.InvT-loop
 Inv-loop lanes₀ sheet place₀ lanes place =
     (place ≤ sheet .«speed_count») × (length lanes ≡ length lanes₀) ×
-    Columns 9 place (speedAt (counted sheet)) (energyAt (counted sheet)) lanes
+    Columns 9 place (speedAt (viewOf sheet)) (energyAt (viewOf sheet)) lanes
 
 abbrev μ-loop : tie.MeasureT-loop
 μ-loop lanes₀ sheet place₀ lanes place = sheet .«speed_count» - place
 
 -- the sheet keeps its ranges
-in-range : (c : tie.Start Inv-loop μ-loop) → Ranged (counted (c .args .t1))
-in-range c = ranged (counted (c .args .t1)) (c .pre .0)
+in-range : (c : tie.Start Inv-loop μ-loop) → Ranged (viewOf (c .args .t1))
+in-range c = ranged (viewOf (c .args .t1)) (c .pre .0)
 
 loop-holds : tie.Need-loop-holds Inv-loop μ-loop
 loop-holds c = (omega arith, refl, columns-none 9 _ _ _)
@@ -59,7 +59,7 @@ loop-again c =
     let put = c .before .before .put-pair .ensures in (
       omega arith,
       put .0 ∙ l .loop .inv .1,
-      put .1 (speedAt (counted (a .t1))) (energyAt (counted (a .t1))) (ap (λ (x : Speed). x .speed) one) (ap (λ (x : Speed). x .energy) one)
+      put .1 (speedAt (viewOf (a .t1))) (energyAt (viewOf (a .t1))) (ap (λ (x : Speed). x .speed) one) (ap (λ (x : Speed). x .energy) one)
           (l .loop .inv .2),
     )
 
@@ -71,7 +71,7 @@ returns c =
     let l = c .before .loop in
     let a = c .before .before .before .args in
     let all : l .place ≡ a .t1 .«speed_count» = omega arith in
-    subst (λ (n : ℕ). Columns 9 n (speedAt (counted (a .t1))) (energyAt (counted (a .t1))) (l .lanes)) all (l .inv .2)
+    subst (λ (n : ℕ). Columns 9 n (speedAt (viewOf (a .t1))) (energyAt (viewOf (a .t1))) (l .lanes)) all (l .inv .2)
 
 pub fill-speeds-spec : {M : Type 1} → statement M
 fill-speeds-spec =

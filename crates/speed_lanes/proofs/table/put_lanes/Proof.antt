@@ -2,7 +2,7 @@
 use Prim.Native.Nat.{_-_, _≤_}
 use mathlib.Core.Path.{refl, sym, ap, _∙_}
 use native.Mathlib.Omega.{arith}
-use Rattle.model.specs.Counted.{counted, speedAt}
+use Rattle.model.specs.View.{viewOf, speedAt}
 use Rattle.model.specs.Queue.{queueIn}
 use Rattle.model.specs.declared.Speed.{Speed}
 use Rattle.model.proofs.Refusal.{Ranged, ranged}
@@ -16,15 +16,15 @@ use Rattle.speed_lanes.proofs.table.put_lanes.Tie as tie
 abbrev Inv-loop : tie.InvT-loop
 Inv-loop counts sizes queue at lanes₀ sheet place₀ lanes place =
     (place ≤ sheet .«speed_count») ×
-    Fills 1 numberAt (λ j. laneOf (sizes .largest) (sizes .bound) (queueIn (sizes .bound) queue) (speedAt (counted sheet) j)) at place
+    Fills 1 numberAt (λ j. laneOf (sizes .largest) (sizes .bound) (queueIn (sizes .bound) queue) (speedAt (viewOf sheet) j)) at place
     lanes₀ lanes
 
 abbrev μ-loop : tie.MeasureT-loop
 μ-loop counts sizes queue at lanes₀ sheet place₀ lanes place = sheet .«speed_count» - place
 
 -- the sheet keeps its ranges
-in-range : (c : tie.Start Inv-loop μ-loop) → Ranged (counted (c .args .t2))
-in-range c = ranged (counted (c .args .t2)) (c .pre .2)
+in-range : (c : tie.Start Inv-loop μ-loop) → Ranged (viewOf (c .args .t2))
+in-range c = ranged (viewOf (c .args .t2)) (c .pre .2)
 
 loop-holds : tie.Need-loop-holds Inv-loop μ-loop
 loop-holds c = (omega arith, fills-none 1 numberAt _ (c .before .args .at) (c .before .args .lanes .now))

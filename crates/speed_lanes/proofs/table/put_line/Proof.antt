@@ -4,7 +4,7 @@ use mathlib.Core.Path.{ap, _∙_}
 use native.Mathlib.Omega.{arith}
 use borrow.Author.Needs.{needs}
 use lib.ListN.{length}
-use Rattle.model.specs.Counted.{counted, speedAt}
+use Rattle.model.specs.View.{viewOf, speedAt}
 use Rattle.model.specs.Queue.{Queue, queueCount, numberOf}
 use Rattle.model.proofs.Refusal.{Ranged, ranged}
 use Rattle.queues.specs.Blocks.{firstOf}
@@ -18,8 +18,8 @@ use Rattle.speed_lanes.proofs.table.put_line.Statement.{statement}
 use Rattle.speed_lanes.proofs.table.put_line.Tie as tie
 
 -- the sheet keeps its ranges
-in-range : (c : tie.Start) → Ranged (counted (c .args .sheet))
-in-range c = ranged (counted (c .args .sheet)) (c .pre .2)
+in-range : (c : tie.Start) → Ranged (viewOf (c .args .sheet))
+in-range c = ranged (viewOf (c .args .sheet)) (c .pre .2)
 
 -- the block is one
 block : (c : tie.Start) → c .args .block < queueCount (c .args .sizes .largest) (pred (c .args .sizes .bound))
@@ -106,7 +106,7 @@ returns : tie.Need-returns
 returns c =
     let start = c .before .before .before .before .before .before .before .before .before .before .before .before .before .before in
     let a = start .args in
-    let s = counted (a .sheet) in
+    let s = viewOf (a .sheet) in
     let m = start .pre .1 in
     let queue = c .before .before .before .before .before .before .before .before .before .before .before .before .first-queue .ensures in
     let same = first-in (a .sizes .largest) (a .sizes .bound) (a .block) (m .bound-low) (m .ranges) (block start) queue in

@@ -3,7 +3,7 @@ use Prim.Native.Nat.{ℕ, _-_, _≤_}
 use mathlib.Core.Path.{_≡_, refl, sym, ap, _∙_}
 use mathlib.Core.Bool.{Bool}
 use native.Mathlib.Omega.{arith}
-use Rattle.model.specs.Counted.{counted, speedAt}
+use Rattle.model.specs.View.{viewOf, speedAt}
 use Rattle.model.specs.Queue.{queueIn}
 use Rattle.model.specs.Tests.{firstPlace}
 use Rattle.model.specs.declared.Speed.{Speed}
@@ -17,14 +17,14 @@ use Rattle.speed_lanes.proofs.table.slowest.Tie as tie
 abbrev Inv-loop : tie.InvT-loop
 Inv-loop sizes queue sheet place₀ place =
     (place ≤ sheet .«speed_count») ×
-    (firstPlace (λ j. leadsOn (sizes .largest) (sizes .bound) (queueIn (sizes .bound) queue) (speedAt (counted sheet) j)) place ≡ place)
+    (firstPlace (λ j. leadsOn (sizes .largest) (sizes .bound) (queueIn (sizes .bound) queue) (speedAt (viewOf sheet) j)) place ≡ place)
 
 abbrev μ-loop : tie.MeasureT-loop
 μ-loop sizes queue sheet place₀ place = sheet .«speed_count» - place
 
 -- the sheet keeps its ranges
-in-range : (c : tie.Start Inv-loop μ-loop) → Ranged (counted (c .args .t1))
-in-range c = ranged (counted (c .args .t1)) (c .pre .1)
+in-range : (c : tie.Start Inv-loop μ-loop) → Ranged (viewOf (c .args .t1))
+in-range c = ranged (viewOf (c .args .t1)) (c .pre .1)
 
 -- of no speeds none leads on
 none : (test : ℕ → Bool) → firstPlace test 0 ≡ 0
@@ -35,7 +35,7 @@ none test = refl
 asked : (c : tie.After-leads-on Inv-loop μ-loop) →
     let l = c .before .before .before in
     let a = l .before .args in
-    leadsOn (a .sizes .largest) (a .sizes .bound) (queueIn (a .sizes .bound) (a .queue)) (speedAt (counted (a .t1)) (l .loop .place)) ≡
+    leadsOn (a .sizes .largest) (a .sizes .bound) (queueIn (a .sizes .bound) (a .queue)) (speedAt (viewOf (a .t1)) (l .loop .place)) ≡
     c .leads-on .result
 asked c =
     let l = c .before .before .before in
@@ -65,7 +65,7 @@ returns c =
     let start = l .before in
     let a = start .args in
     sym
-    (first-found (λ j. leadsOn (a .sizes .largest) (a .sizes .bound) (queueIn (a .sizes .bound) (a .queue)) (speedAt (counted (a .t1)) j))
+    (first-found (λ j. leadsOn (a .sizes .largest) (a .sizes .bound) (queueIn (a .sizes .bound) (a .queue)) (speedAt (viewOf (a .t1)) j))
     (l .loop .place)
     (a .t1 .«speed_count») (l .loop .inv .1) (asked (c .before) ∙ c .if1 .taken) (c .before .before .before .loop-test .taken))
 
@@ -80,7 +80,7 @@ loop-again c =
     let l = c .before .before .before .before in
     let a = l .before .args in (
       omega arith,
-      first-more (λ j. leadsOn (a .sizes .largest) (a .sizes .bound) (queueIn (a .sizes .bound) (a .queue)) (speedAt (counted (a .t1)) j))
+      first-more (λ j. leadsOn (a .sizes .largest) (a .sizes .bound) (queueIn (a .sizes .bound) (a .queue)) (speedAt (viewOf (a .t1)) j))
           (l .loop .place)
           (l .loop .inv .1) (asked (c .before) ∙ c .if1 .left),
     )
@@ -92,7 +92,7 @@ returns-2 c =
     let all : l .place ≡ a .t1 .«speed_count» = omega arith in
     sym (l .inv .1) ∙
     ap (firstPlace (λ j. leadsOn (a .sizes .largest) (a .sizes .bound) (queueIn (a .sizes .bound) (a .queue))
-    (speedAt (counted (a .t1)) j))) all
+    (speedAt (viewOf (a .t1)) j))) all
 
 pub slowest-spec : {M : Type 1} → statement M
 slowest-spec =

@@ -12,7 +12,7 @@ use Rattle.model.proofs.Refusal.{fields-right, accepted}
 use Rattle.laws.proofs.Rooms.{row-accepted}
 use Rattle.laws.proofs.Stepper.{state-right, speed-refusal-row, speed-refusal-13, speed-refusal-14, speed-refusal-16-or-0, byte-at}
 use Rattle.model.proofs.Tests.{check-true, check-false}
-use Rattle.model.specs.Counted.{counted, M}
+use Rattle.model.specs.View.{viewOf, M}
 use Rattle.model.specs.Plan.{byteAt, rowRefusal}
 use Rattle.model.specs.Queue.{queueIn, bearable, numberOf}
 use Rattle.model.specs.Refusal.{fieldsRefusal, valueLimit}
@@ -29,29 +29,29 @@ use Rattle.stepper.specs.Calls.{stateOf}
 -- behind the first test the sheet is accepted and the plan has room
 passed : (c : tie.Else1) →
     let a = c .before .before .before .args in
-    rowRefusal (counted (a .sheet)) (length (a .plan .now)) ≡ 0
+    rowRefusal (viewOf (a .sheet)) (length (a .plan .now)) ≡ 0
 passed c = sym (c .before .row-refusal .ensures) ∙ c .if1 .left
 
 -- so that the sheet's fields are right
-fields : (c : tie.Else1) → fieldsRefusal (counted (c .before .before .before .args .sheet)) ≡ 0
+fields : (c : tie.Else1) → fieldsRefusal (viewOf (c .before .before .before .args .sheet)) ≡ 0
 fields c =
-    let s = counted (c .before .before .before .args .sheet) in
+    let s = viewOf (c .before .before .before .args .sheet) in
     fields-right valueLimit s (row-accepted s _ (passed c) .0)
 
 -- behind the second one the state is right
 right : (c : tie.Else2) →
     let a = c .before .before .before .before .before .before .args in
-    stateRight (counted (a .sheet)) (stateOf (a .state)) ≡ true
+    stateRight (viewOf (a .sheet)) (stateOf (a .state)) ≡ true
 right c = passed-by (c .before .state-right .ensures) (c .if2 .left)
 
 -- behind the third one it is before the horizon, and the plan byte decides
 byte : (c : tie.After-byte-right) →
     let a = c .before .before .before .before .before .before .before .before .before .before .before .before .args in
-    c .before .byte-of-queue .result ≡ planByte (counted (a .sheet)) (a .plan .now) (stateOf (a .state))
+    c .before .byte-of-queue .result ≡ planByte (viewOf (a .sheet)) (a .plan .now) (stateOf (a .state))
 byte c =
     let sizes = c .before .before .before .before .before .before .before .before in
     let a = sizes .before .before .before .before .args in
-    let s = counted (a .sheet) in
+    let s = viewOf (a .sheet) in
     c .before .byte-of-queue .ensures ∙
     byte-is s (sizes .sizes-of .ensures) (a .plan .now) (a .state .slot) _ ∙
     sized-same (sizes .sizes-of .ensures) (λ m D. byteAt s (a .plan .now) (a .state .slot) (numberOf m (queueIn D (a .state .queue)))) ∙
@@ -66,7 +66,7 @@ refused-requires c κs = tt
 returns : tie.Need-returns
 returns c =
     let a = c .before .before .before .before .args in
-    let s = counted (a .sheet) in
+    let s = viewOf (a .sheet) in
     let some = c .before .if1 .taken in
     told-refused s (a .plan .now) (stateOf (a .state))
     (speed-refusal-row s (a .plan .now) (stateOf (a .state)) (c .before .before .row-refusal .ensures) some) some (c .refused .ensures)
@@ -85,7 +85,7 @@ returns-2 c =
     let told = c .before .before in
     let accepted = told .before .before in
     let a = accepted .before .before .before .args in
-    let s = counted (a .sheet) in
+    let s = viewOf (a .sheet) in
     told-refused s (a .plan .now) (stateOf (a .state))
     (speed-refusal-13 s (a .plan .now) (stateOf (a .state)) (passed accepted) (failed-by (told .state-right .ensures) (c .before .if2 .taken)))
     (λ e. omega arith) (c .refused2 .ensures)
@@ -98,7 +98,7 @@ returns-3 c =
     let told = c .before .before .before .before in
     let accepted = told .before .before .before in
     let a = accepted .before .before .before .args in
-    let s = counted (a .sheet) in
+    let s = viewOf (a .sheet) in
     told-refused s (a .plan .now) (stateOf (a .state))
     (speed-refusal-14 s (a .plan .now) (stateOf (a .state)) (passed accepted) (right told) (c .before .if3 .taken))
     (λ e. omega arith) (c .refused3 .ensures)
@@ -110,7 +110,7 @@ byte-of-queue-requires c κs =
     let sizes = told .before .before in
     let start = sizes .before .before .before .before in
     let a = start .args in
-    let s = counted (a .sheet) in
+    let s = viewOf (a .sheet) in
     let state = state-right s (stateOf (a .state)) (subst T (sym (right told)) tt) in
     let is-accepted = accepted s (row-accepted s _ (passed (sizes .before)) .0) in
     let sized = sizes .sizes-of .ensures in
@@ -127,13 +127,13 @@ byte-right-requires c κs = fields (c .before .before .before .before .before .b
 -- the number, by what was asked of the plan byte
 number : (c : tie.After-byte-right) →
     let a = c .before .before .before .before .before .before .before .before .before .before .before .before .args in
-    speedRefusal (counted (a .sheet)) (a .plan .now) (stateOf (a .state)) ≡ check (c .byte-right .result) 16
+    speedRefusal (viewOf (a .sheet)) (a .plan .now) (stateOf (a .state)) ≡ check (c .byte-right .result) 16
 number c =
     let later = c .before .before .before in
     let told = later .before .before .before in
     let accepted = told .before .before .before in
     let a = accepted .before .before .before .args in
-    let s = counted (a .sheet) in
+    let s = viewOf (a .sheet) in
     let x = stateOf (a .state) in
     speed-refusal-16-or-0 s (a .plan .now) x (passed accepted) (right told) (later .if3 .left) ∙
     ap (λ (b : Bool). check b 16) (ap (byteRight s x) (sym (byte c)) ∙ sym (c .byte-right .ensures))
@@ -145,7 +145,7 @@ returns-4 : tie.Need-returns-4
 returns-4 c =
     let asked = c .before .before in
     let a = asked .before .before .before .before .before .before .before .before .before .before .before .before .args in
-    let s = counted (a .sheet) in
+    let s = viewOf (a .sheet) in
     told-refused s (a .plan .now) (stateOf (a .state))
     (number asked ∙ check-false (asked .byte-right .result) 16 (failed-by refl (c .before .if4 .taken))) (λ e. omega arith)
     (c .refused4 .ensures)
@@ -154,7 +154,7 @@ returns-5 : tie.Need-returns-5
 returns-5 c =
     let asked = c .before in
     let a = asked .before .before .before .before .before .before .before .before .before .before .before .before .args in
-    let s = counted (a .sheet) in
+    let s = viewOf (a .sheet) in
     told-done s (a .plan .now) (stateOf (a .state))
     (number asked ∙ check-true (asked .byte-right .result) 16 (passed-by refl (c .if4 .left))) (byte asked)
 

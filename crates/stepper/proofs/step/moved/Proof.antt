@@ -9,7 +9,7 @@ use lib.ListN.{length-take}
 use Rattle.model.proofs.Queues.{held-bearable}
 use Rattle.model.proofs.Refusal.{ranged, M-high}
 use Rattle.laws.proofs.Stepper.{state-right, moved-by}
-use Rattle.model.specs.Counted.{counted, M}
+use Rattle.model.specs.View.{viewOf, M}
 use Rattle.model.specs.Queue.{queueIn, placesOf, bearable, oneSlot}
 use Rattle.model.specs.Stepper.{queueOf, moved}
 use Rattle.ranges.proofs.Answers.{passed-by, failed-by}
@@ -34,19 +34,19 @@ queue-is c =
 -- what was asked of it is what 17 asks
 asked : (c : tie.After-bearable) →
     let a = c .before .before .before .args in
-    let s = counted (a .sheet) in
+    let s = viewOf (a .sheet) in
     c .bearable .result ≡ bearable (M s) (queueOf s (moved s (stateOf (a .state)) (a .speed) (a .size) (a .deadline)))
 asked c =
     let start = c .before .before .before in
     let a = start .args in
-    asked-of-next (counted (a .sheet)) (stateOf (a .state)) (a .speed) (a .size) (a .deadline) (start .pre .1) (queue-is (c .before))
+    asked-of-next (viewOf (a .sheet)) (stateOf (a .state)) (a .speed) (a .size) (a .deadline) (start .pre .1) (queue-is (c .before))
     (c .bearable .ensures)
 
 one-slot-requires : tie.Need-one-slot-requires
 one-slot-requires c κs =
     let start = c .before in
     let a = start .args in
-    let s = counted (a .sheet) in
+    let s = viewOf (a .sheet) in
     let right = ranged s (start .pre .0) in
     let w = queueIn (s .bound) (a .state .queue) in
     let held = held-bearable (M s) (s .bound) (a .state .queue) (state-right s (stateOf (a .state)) (start .pre .2) .0) in (
@@ -59,20 +59,20 @@ one-slot-requires c κs =
 add-next : tie.Need-add-next
 add-next c =
     let start = c .before .before in
-    let s = counted (start .args .sheet) in
+    let s = viewOf (start .args .sheet) in
     omega (arith, state-right s (stateOf (start .args .state)) (start .pre .2) .1, ranged s (start .pre .0) .horizon-high)
 
 bearable-requires : tie.Need-bearable-requires
 bearable-requires c κs =
     let start = c .before .before in
-    let ranges = sized-ranges (ranged (counted (start .args .sheet)) (start .pre .0)) (start .pre .1) in
+    let ranges = sized-ranges (ranged (viewOf (start .args .sheet)) (start .pre .0)) (start .pre .1) in
     (ranges .speed-high, ranges .bound-high)
 
 returns : tie.Need-returns
 returns c =
     let a = c .before .before .before .before .args in
     stepped-as (a .state)
-    (moved-17 (counted (a .sheet)) (stateOf (a .state)) (a .speed) (a .size) (a .deadline)
+    (moved-17 (viewOf (a .sheet)) (stateOf (a .state)) (a .speed) (a .size) (a .deadline)
     (failed-by (asked (c .before)) (c .if1 .taken))) refl
 
 energy-of-requires : tie.Need-energy-of-requires
@@ -86,7 +86,7 @@ returns-2 c =
     let tested = c .before .before .before in
     let a = tested .before .before .before .before .args in
     stepped-as (a .state)
-    (moved-18 (counted (a .sheet)) (stateOf (a .state)) (a .speed) (a .size) (a .deadline)
+    (moved-18 (viewOf (a .sheet)) (stateOf (a .state)) (a .speed) (a .size) (a .deadline)
     (passed-by (asked (tested .before)) (tested .if1 .left)) (omega (arith, c .if2 .taken, c .before .before .energy-of .ensures))) refl
 
 add-next-2 : tie.Need-add-next-2
@@ -97,7 +97,7 @@ returns-3 c =
     let spent = c .before .before .before in
     let tested = spent .before in
     let a = tested .before .before .before .before .args in
-    let s = counted (a .sheet) in
+    let s = viewOf (a .sheet) in
     let x = stateOf (a .state) in
     let queue-now = queue-is (tested .before .before) in
     let energy-is = ap (λ (n : ℕ). a .state .energy + n) (spent .energy-of .ensures) in

@@ -7,7 +7,7 @@ use borrow.Author.Tests.{lt-ltb, le-ltb}
 use lib.Dec.{leb}
 use Rattle.model.proofs.Refusal.{ranged}
 use Rattle.laws.proofs.Stepper.{wrong-byte, first-decides}
-use Rattle.model.specs.Counted.{counted, placeOfSpeed}
+use Rattle.model.specs.View.{viewOf, placeOfSpeed}
 use Rattle.slot.proofs.Places.{total-in}
 use Rattle.lookups.proofs.Looking.{on-sheet-place}
 use Rattle.stepper.proofs.tests.byte_right.Statement.{statement}
@@ -20,7 +20,7 @@ place-of-requires c κs = search needs
 returns : tie.Need-returns
 returns c =
     let a = c .before .before .before .args in
-    let s = counted (a .sheet) in
+    let s = viewOf (a .sheet) in
     let past : s .speedCount ≤ placeOfSpeed s (a .byte) = omega (arith, c .if1 .taken, c .before .before .place-of .ensures) in
     sym
     (wrong-byte s (stateOf (a .t2)) (a .byte)
@@ -33,7 +33,7 @@ returns-2 : tie.Need-returns-2
 returns-2 c =
     let start = c .before .before .before .before in
     let a = start .args in
-    let s = counted (a .sheet) in
+    let s = viewOf (a .sheet) in
     let there : placeOfSpeed s (a .byte) < s .speedCount =
     omega (arith, c .before .if1 .left, c .before .before .before .place-of .ensures) in
     ap (λ (first : ℕ). leb first (a .byte)) (sym (total-in (s .bound) (a .t2 .queue) 1 (ranged s (start .pre) .bound-low))) ∙

@@ -7,7 +7,7 @@ use lib.Dec.{T}
 use Rattle.model.proofs.Refusal.{fields-right}
 use Rattle.laws.proofs.Rooms.{row-accepted}
 use Rattle.laws.proofs.Stepper.{speed-by, speed-accepted, byte-on-sheet, advance-by, advance-refusal-speed, advance-refusal-15}
-use Rattle.model.specs.Counted.{counted, onSheet}
+use Rattle.model.specs.View.{viewOf, onSheet}
 use Rattle.model.specs.Refusal.{fieldsRefusal, valueLimit}
 use Rattle.model.specs.Stepper.{Stepped, Told, planByte, speedRefusal, isEntry, moved}
 use Rattle.ranges.proofs.Answers.{passed-by, failed-by}
@@ -20,33 +20,33 @@ use Rattle.stepper.specs.Calls.{stateOf, IsStepped}
 -- the number told is that of the speed's refusal
 refusal : (c : tie.After-struct-known) →
     let a = c .before .before .before .before .before .args in
-    c .before .speed-of .result .number ≡ speedRefusal (counted (a .sheet)) (a .plan .now) (stateOf (a .self))
+    c .before .speed-of .result .number ≡ speedRefusal (viewOf (a .sheet)) (a .plan .now) (stateOf (a .self))
 refusal c =
     let a = c .before .before .before .before .before .args in
     c .before .speed-of .ensures .number-is ∙
-    ap (λ (r : Told). r .number) (speed-by (counted (a .sheet)) (a .plan .now) (stateOf (a .self)) refl)
+    ap (λ (r : Told). r .number) (speed-by (viewOf (a .sheet)) (a .plan .now) (stateOf (a .self)) refl)
 
 -- behind the first test the speed is not refused
 passed : (c : tie.Else1) →
     let a = c .before .before .before .before .before .before .args in
-    speedRefusal (counted (a .sheet)) (a .plan .now) (stateOf (a .self)) ≡ 0
+    speedRefusal (viewOf (a .sheet)) (a .plan .now) (stateOf (a .self)) ≡ 0
 passed c = sym (refusal (c .before)) ∙ c .if1 .left
 
 -- so that the sheet's fields are right
-fields : (c : tie.Else1) → fieldsRefusal (counted (c .before .before .before .before .before .before .args .sheet)) ≡ 0
+fields : (c : tie.Else1) → fieldsRefusal (viewOf (c .before .before .before .before .before .before .args .sheet)) ≡ 0
 fields c =
     let a = c .before .before .before .before .before .before .args in
-    let s = counted (a .sheet) in
+    let s = viewOf (a .sheet) in
     fields-right valueLimit s (row-accepted s _ (speed-accepted s (a .plan .now) (stateOf (a .self)) (passed c) .0) .0)
 
 -- and the speed told is the plan's
 byte : (c : tie.Else1) →
     let a = c .before .before .before .before .before .before .args in
-    c .before .before .speed-of .result .speed ≡ planByte (counted (a .sheet)) (a .plan .now) (stateOf (a .self))
+    c .before .before .speed-of .result .speed ≡ planByte (viewOf (a .sheet)) (a .plan .now) (stateOf (a .self))
 byte c =
     let a = c .before .before .before .before .before .before .args in
     c .before .before .speed-of .ensures .speed-is ∙
-    ap (λ (r : Told). r .speed) (speed-by (counted (a .sheet)) (a .plan .now) (stateOf (a .self)) (passed c))
+    ap (λ (r : Told). r .speed) (speed-by (viewOf (a .sheet)) (a .plan .now) (stateOf (a .self)) (passed c))
 
 table-requires : tie.Need-table-requires
 table-requires c κs = search needs
@@ -57,7 +57,7 @@ speed-of-requires c κs = search needs
 returns : tie.Need-returns
 returns c =
     let a = c .before .before .before .before .before .before .args in
-    let s = counted (a .sheet) in
+    let s = viewOf (a .sheet) in
     let x = stateOf (a .self) in
     stepped-as (a .self)
     (advance-by s (a .plan .now) x (a .size) (a .deadline)
@@ -71,7 +71,7 @@ returns-2 : tie.Need-returns-2
 returns-2 c =
     let accepted = c .before .before in
     let a = accepted .before .before .before .before .before .before .args in
-    let s = counted (a .sheet) in
+    let s = viewOf (a .sheet) in
     let x = stateOf (a .self) in
     stepped-as (a .self)
     (advance-by s (a .plan .now) x (a .size) (a .deadline)
@@ -81,7 +81,7 @@ returns-2 c =
 -- behind the second one the arrival is an entry
 entry : (c : tie.Else2) →
     let a = c .before .before .before .before .before .before .before .before .args in
-    isEntry (counted (a .sheet)) (a .size) (a .deadline) ≡ true
+    isEntry (viewOf (a .sheet)) (a .size) (a .deadline) ≡ true
 entry c = passed-by (c .before .is-entry .ensures) (c .if2 .left)
 
 sizes-of-requires : tie.Need-sizes-of-requires
@@ -94,7 +94,7 @@ moved-requires c κs =
     let tested = c .before .before in
     let accepted = tested .before .before in
     let a = accepted .before .before .before .before .before .before .args in
-    let s = counted (a .sheet) in
+    let s = viewOf (a .sheet) in
     let x = stateOf (a .self) in
     let told = speed-accepted s (a .plan .now) x (passed accepted) in (
       fields accepted,
@@ -110,7 +110,7 @@ returns-3 c =
     let accepted = tested .before .before in
     let a = accepted .before .before .before .before .before .before .args in
     subst (λ (said : Stepped). IsStepped said (c .moved .result .number) (c .moved .result .state))
-    (moved-advances (counted (a .sheet)) (stateOf (a .self)) _ (a .size) (a .deadline) (a .plan .now) (byte accepted) (passed accepted)
+    (moved-advances (viewOf (a .sheet)) (stateOf (a .self)) _ (a .size) (a .deadline) (a .plan .now) (byte accepted) (passed accepted)
     (entry tested))
     (c .moved .ensures)
 

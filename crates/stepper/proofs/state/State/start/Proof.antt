@@ -3,7 +3,7 @@ use mathlib.Core.Path.{_≡_, refl, sym, _∙_}
 use borrow.Author.Needs.{needs}
 use Rattle.model.proofs.Refusal.{ranged, fields-right}
 use Rattle.laws.proofs.Stepper.{start-by, start-refusal-sheet, start-refusal-13, start-refusal-0}
-use Rattle.model.specs.Counted.{counted}
+use Rattle.model.specs.View.{viewOf}
 use Rattle.model.specs.Refusal.{fieldsRefusal, sheetRefusal, valueLimit}
 use Rattle.model.specs.Stepper.{zeroState, queueRight}
 use Rattle.model.specs.Queue.{bearableIn}
@@ -15,7 +15,7 @@ use Rattle.stepper.proofs.state.State.start.Tie as tie
 use Rattle.stepper.specs.Calls.{stateOf}
 
 -- behind the first test the sheet is accepted
-passed : (c : tie.Else1) → sheetRefusal valueLimit (counted (c .before .before .before .before .args .sheet)) ≡ 0
+passed : (c : tie.Else1) → sheetRefusal valueLimit (viewOf (c .before .before .before .before .args .sheet)) ≡ 0
 passed c = sym (c .before .sheet-refusal .ensures) ∙ c .if1 .left
 
 table-requires : tie.Need-table-requires
@@ -32,13 +32,13 @@ returns c =
     let a = c .before .before .before .before .before .args in
     let some = c .before .if1 .taken in
     stepped-as (c .zero-state .result)
-    (start-by (counted (a .sheet)) (stateOf (a .self))
-    (start-refusal-sheet (counted (a .sheet)) (stateOf (a .self)) (c .before .before .sheet-refusal .ensures) some))
+    (start-by (viewOf (a .sheet)) (stateOf (a .self))
+    (start-refusal-sheet (viewOf (a .sheet)) (stateOf (a .self)) (c .before .before .sheet-refusal .ensures) some))
     (c .zero-state .ensures ∙ refused-gives (record { queue = a .self .queue; slot = 0; energy = 0 }) zeroState some)
 
 -- so that its fields are right
-fields : (c : tie.Else1) → fieldsRefusal (counted (c .before .before .before .before .args .sheet)) ≡ 0
-fields c = fields-right valueLimit (counted (c .before .before .before .before .args .sheet)) (passed c)
+fields : (c : tie.Else1) → fieldsRefusal (viewOf (c .before .before .before .before .args .sheet)) ≡ 0
+fields c = fields-right valueLimit (viewOf (c .before .before .before .before .args .sheet)) (passed c)
 
 sizes-of-requires : tie.Need-sizes-of-requires
 sizes-of-requires c κs = (c .before .before .before .before .table .ensures, fields (c .before))
@@ -47,14 +47,14 @@ bearable-in-requires : tie.Need-bearable-in-requires
 bearable-in-requires c κs =
     let sizes = c .before in
     let told = sizes .before .before in
-    let s = counted (told .before .before .before .before .args .sheet) in
+    let s = viewOf (told .before .before .before .before .args .sheet) in
     let ranges = sized-ranges (ranged s (fields told)) (sizes .sizes-of .ensures) in
     (ranges .speed-high, ranges .bound-high)
 
 -- what was asked of the queue is what 13 asks
 asked : (c : tie.After-bearable-in) →
     let a = c .before .before .before .before .before .before .before .before .args in
-    c .bearable-in .result ≡ queueRight (counted (a .sheet)) (stateOf (a .self))
+    c .bearable-in .result ≡ queueRight (viewOf (a .sheet)) (stateOf (a .self))
 asked c =
     let a = c .before .before .before .before .before .before .before .before .args in
     c .bearable-in .ensures ∙ sized-same (c .before .before .sizes-of .ensures) (λ m D. bearableIn m D (a .self .queue))
@@ -68,8 +68,8 @@ returns-2 c =
     let told = tested .before .before .before .before in
     let a = told .before .before .before .before .args in
     stepped-as (c .zero-state2 .result)
-    (start-by (counted (a .sheet)) (stateOf (a .self))
-    (start-refusal-13 (counted (a .sheet)) (stateOf (a .self)) (passed told) (failed-by (asked tested) (c .before .if2 .taken))))
+    (start-by (viewOf (a .sheet)) (stateOf (a .self))
+    (start-refusal-13 (viewOf (a .sheet)) (stateOf (a .self)) (passed told) (failed-by (asked tested) (c .before .if2 .taken))))
     (c .zero-state2 .ensures)
 
 returns-3 : tie.Need-returns-3
@@ -78,8 +78,8 @@ returns-3 c =
     let told = tested .before .before .before .before in
     let a = told .before .before .before .before .args in
     stepped-as _
-    (start-by (counted (a .sheet)) (stateOf (a .self))
-    (start-refusal-0 (counted (a .sheet)) (stateOf (a .self)) (passed told) (passed-by (asked tested) (c .if2 .left))))
+    (start-by (viewOf (a .sheet)) (stateOf (a .self))
+    (start-refusal-0 (viewOf (a .sheet)) (stateOf (a .self)) (passed told) (passed-by (asked tested) (c .if2 .left))))
     refl
 
 pub start-spec : {M : Type 1} → statement M

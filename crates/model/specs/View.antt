@@ -14,7 +14,7 @@ use Rattle.model.specs.declared.Sheet.{Sheet}
 use Rattle.model.specs.declared.Speed.{Speed}
 
 -- "deadline bound, speeds with energies, horizon, weighted jobs"
-pub record Counted : Type 0 where
+pub record View : Type 0 where
   pub bound : ℕ
   pub speedCount : ℕ
   pub speeds : List Speed
@@ -23,8 +23,8 @@ pub record Counted : Type 0 where
   pub jobs : List Job
 
 -- the places of a sheet in memory that count
-abbrev pub counted : Sheet → Counted
-counted s =
+abbrev pub viewOf : Sheet → View
+viewOf s =
     record {
       bound = s .bound;
       speedCount = s .«speed_count»;
@@ -35,7 +35,7 @@ counted s =
     }
 
 -- as many places as the counts say
-pub record WellCounted (s : Counted) : Type 0 where
+pub record WholeView (s : View) : Type 0 where
   pub speeds-counted : length (s .speeds) ≡ s .speedCount
   pub jobs-counted : length (s .jobs) ≡ s .jobCount
 
@@ -46,7 +46,7 @@ abbrev pub zeroJob : Job
 zeroJob = record { weight = 0; size = 0; deadline = 0 }
 
 -- "Write then read gives the sheet with those places zero": the counted places in memory, and zero in every other
-abbrev pub inMemory : Counted → Sheet
+abbrev pub inMemory : View → Sheet
 inMemory s =
     record {
       bound = s .bound;
@@ -58,8 +58,8 @@ inMemory s =
     }
 
 -- a sheet of these two tables: the counts are their lengths
-abbrev pub sheetOf : ℕ → List Speed → ℕ → List Job → Counted
-sheetOf D speeds T jobs =
+abbrev pub viewWith : ℕ → List Speed → ℕ → List Job → View
+viewWith D speeds T jobs =
     record { bound = D; speedCount = length speeds; speeds = speeds; horizon = T; jobCount = length jobs; jobs = jobs }
 
 -- "an all-zero sheet"
@@ -76,53 +76,53 @@ zeroSheet =
 
 -- what stands at a place of the sheet, the places counted from 0
 
-abbrev pub speedAt : Counted → ℕ → ℕ
+abbrev pub speedAt : View → ℕ → ℕ
 speedAt s j = (getD (s .speeds) j zeroSpeed) .speed
 
-abbrev pub energyAt : Counted → ℕ → ℕ
+abbrev pub energyAt : View → ℕ → ℕ
 energyAt s j = (getD (s .speeds) j zeroSpeed) .energy
 
-abbrev pub weightAt : Counted → ℕ → ℕ
+abbrev pub weightAt : View → ℕ → ℕ
 weightAt s i = (getD (s .jobs) i zeroJob) .weight
 
-abbrev pub sizeAt : Counted → ℕ → ℕ
+abbrev pub sizeAt : View → ℕ → ℕ
 sizeAt s i = (getD (s .jobs) i zeroJob) .size
 
-abbrev pub deadlineAt : Counted → ℕ → ℕ
+abbrev pub deadlineAt : View → ℕ → ℕ
 deadlineAt s i = (getD (s .jobs) i zeroJob) .deadline
 
 -- the sheet's speeds, in the sheet's order
-unfoldable pub speedsOf : Counted → List ℕ
+unfoldable pub speedsOf : View → List ℕ
 speedsOf s = listed (speedAt s) (s .speedCount)
 
 -- this speed stands at a place
-abbrev pub isSpeedAt : Counted → ℕ → ℕ → Bool
+abbrev pub isSpeedAt : View → ℕ → ℕ → Bool
 isSpeedAt s speed j = eqb (speedAt s j) speed
 
 -- a speed is on the sheet
-unfoldable pub onSheet : Counted → ℕ → Bool
+unfoldable pub onSheet : View → ℕ → Bool
 onSheet s speed = anywhere (isSpeedAt s speed) (s .speedCount)
 
 -- its place; the count of speeds where it is not on the sheet
-abbrev pub placeOfSpeed : Counted → ℕ → ℕ
+abbrev pub placeOfSpeed : View → ℕ → ℕ
 placeOfSpeed s speed = firstPlace (isSpeedAt s speed) (s .speedCount)
 
 -- the energy per slot of a speed that is on the sheet
-unfoldable pub energyOf : Counted → ℕ → ℕ
+unfoldable pub energyOf : View → ℕ → ℕ
 energyOf s speed = energyAt s (placeOfSpeed s speed)
 
 -- "W is the sum of the weights"
-unfoldable pub W : Counted → ℕ
+unfoldable pub W : View → ℕ
 W s = sum (weightAt s) (s .jobCount)
 
 -- "the largest M"
-unfoldable pub M : Counted → ℕ
+unfoldable pub M : View → ℕ
 M s = greatest (speedAt s) (s .speedCount)
 
 -- "the greatest energy", over all the speeds; 0 where all are 0
-unfoldable pub greatestEnergy : Counted → ℕ
+unfoldable pub greatestEnergy : View → ℕ
 greatestEnergy s = greatest (energyAt s) (s .speedCount)
 
 -- "G is the greatest energy, or 1 if that is 0"
-unfoldable pub G : Counted → ℕ
+unfoldable pub G : View → ℕ
 G s = cond (eqb (greatestEnergy s) 0) 1 (greatestEnergy s)

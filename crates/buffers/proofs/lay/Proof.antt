@@ -1,18 +1,17 @@
--- `put_text` meets its contract. The loop's invariant: the characters passed are laid. Each has room, since all of them have.
+-- `lay` meets its contract. The loop's invariant: the bytes passed are laid. Each has room, since all of them have.
 use Prim.Native.Nat.{_≤_, _-_}
 use native.Mathlib.Omega.{arith}
 use lib.ListN.{length, take}
 use Rattle.buffers.specs.Laid.{Laid}
-use Rattle.buffers.proofs.Laid.{laid-none, laid-length}
-use Rattle.decimals.proofs.Texts.{text-inside, text-laid, text-whole}
-use Rattle.decimals.proofs.decimal.put_text.Statement.{statement}
-use Rattle.decimals.proofs.decimal.put_text.Tie as tie
+use Rattle.buffers.proofs.Laid.{laid-none, laid-length, front-inside, front-laid, front-whole}
+use Rattle.buffers.proofs.lay.Statement.{statement}
+use Rattle.buffers.proofs.lay.Tie as tie
 
 abbrev Inv-loop : tie.InvT-loop
-Inv-loop buffer₀ at text next₀ place₀ buffer next place = (place ≤ length text) × Laid at (take place text) buffer₀ buffer next
+Inv-loop buffer₀ at bytes next₀ place₀ buffer next place = (place ≤ length bytes) × Laid at (take place bytes) buffer₀ buffer next
 
 abbrev μ-loop : tie.MeasureT-loop
-μ-loop buffer₀ at text next₀ place₀ buffer next place = length text - place
+μ-loop buffer₀ at bytes next₀ place₀ buffer next place = length bytes - place
 
 loop-holds : tie.Need-loop-holds Inv-loop μ-loop
 loop-holds c = (omega arith, laid-none _ _)
@@ -23,7 +22,7 @@ shared-slice-read-buffer c = c .before .loop-test .taken
 slice-write-buffer : tie.Need-slice-write-buffer Inv-loop μ-loop
 slice-write-buffer c =
     let start = c .before .before .before in
-    text-inside (start .args .text .now) (c .before .loop-test .taken) (c .before .before .loop .inv .1) (start .pre)
+    front-inside (start .args .bytes .now) (c .before .loop-test .taken) (c .before .before .loop .inv .1) (start .pre)
 
 add-next : tie.Need-add-next Inv-loop μ-loop
 add-next c =
@@ -39,19 +38,19 @@ loop-again : tie.Need-loop-again Inv-loop μ-loop
 loop-again c =
     let start = c .before .before .before in (
       omega arith,
-      text-laid (start .args .text .now) (c .before .loop-test .taken) (c .before .before .loop .inv .1) (start .pre),
+      front-laid (start .args .bytes .now) (c .before .loop-test .taken) (c .before .before .loop .inv .1) (start .pre),
     )
 
 returns : tie.Need-returns Inv-loop μ-loop
 returns c =
     let start = c .before .before in
-    text-whole (start .args .text .now) (c .loop-test .left) (c .before .loop .inv .1)
+    front-whole (start .args .bytes .now) (c .loop-test .left) (c .before .loop .inv .1)
 
 same-length : tie.Need-same-length Inv-loop μ-loop
 same-length c = laid-length (returns c)
 
-pub put-text-spec : {M : Type 1} → statement M
-put-text-spec =
+pub lay-spec : {M : Type 1} → statement M
+lay-spec =
     tie.close
     (tie.spec
     Inv-loop
