@@ -7,7 +7,7 @@ standard output, byte for byte, what independent.py works out from document 01's
 end with status 0. Sheet A is also handed over in two pieces. The inputs:
     named      sheet A, no bytes, more bytes than a sheet can have, the longest sheets, two at
                number 9's limit, and every line `bytes` of the cases (crates/calls/stdin)
-    sheets     every file of the folder `sheets` beside `tests`, but for those ending in .md
+    examples   every file of the folder `examples` beside `tests`, but for those ending in .md
     accepted   150 random sheets that the program's lent memory has room for: speeds with
                gaps, energies in any order and often equal, T from 1 to the longest there is
     damaged    150 more, each damaged in one of the ways of `DAMAGES`
@@ -248,13 +248,13 @@ def named_inputs():
 
 
 def sheet_files():
-    """The bytes of the files in the folder `sheets`, in the order of their names."""
-    folder = Path(__file__).resolve().parent.parent / "sheets"
+    """The bytes of the files in the folder `examples`, in the order of their names."""
+    folder = Path(__file__).resolve().parent.parent / "examples"
     if not folder.is_dir():
-        sys.exit("there is no folder `sheets` beside `tests`; its sheets belong to the inputs")
+        sys.exit("there is no folder `examples` beside `tests`; its sheets belong to the inputs")
     files = [path for path in sorted(folder.iterdir()) if not path.name.endswith(".md")]
     if not files:
-        sys.exit("there is no sheet in the folder `sheets` beside `tests`")
+        sys.exit("there is no sheet in the folder `examples` beside `tests`")
     return [path.read_bytes() for path in files]
 
 
