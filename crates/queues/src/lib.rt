@@ -13,7 +13,7 @@ ghost use Rattle.model.specs.Queue.{queueIn, placesOf, bearableQueues, queueCou
 ghost use Rattle.counts.specs.Counts.{InTable, HoldsCounts};
 ghost use Rattle.queues.specs.Order.{Ranges, Numbered, earlierAt, Leads, Follows};
 
-// The sum of the counts of n slacks in a row, from this one up.
+// The sum of the counts of n consecutive slacks, from this one up.
 fn sum_of_counts(counts: &[u32; 2352], largest: u32, left: usize, slack: u32, n: u32) -> usize
     requires { ⌜ HoldsCounts (now counts) × ((j : ℕ) → j < n → InTable largest left (slack + j)) ⌝ }
     ensures { λ r. ⌜ r ≡ sum (λ j. continuationCount largest left (slack + j)) n ⌝ }

@@ -13,7 +13,7 @@ ghost use Rattle.slot.specs.Slot.{lastTwice};
 ghost use Rattle.buffers.specs.Fills.{Fills, numberAt};
 ghost use Rattle.rows.specs.Tables.{lineOf, lineAt, Columns};
 
-// The first queue of a block of queues of so many positions: what the block shares, with its last total once more.
+// The first queue of a block of queues of so many positions: the totals that they share, with the last of these once more.
 pub fn first_queue(counts: &[u32; 2352], largest: u32, positions: usize, block: usize) -> [u32; 6]
     requires { ⌜ HoldsCounts (now counts) × Ranges largest positions × (block < queueCount largest (pred positions)) ⌝ }
     ensures { λ r. ⌜ r ≡ placesOf (lastTwice (queueWith largest (pred positions) block)) ⌝ }
@@ -32,7 +32,7 @@ pub fn line_at(column: usize, count: u32, block: usize) -> usize
     column + column + block * (count as usize + 3)
 }
 
-// Puts one place more of both columns.
+// Puts the next number of each column.
 pub fn put_pair(table: &mut [u32], column: usize, place: usize, first: u32, second: u32)
     requires { ⌜ (place < column) × (column + column ≤ length (now table)) ⌝ }
     ensures { λ r. ⌜ (length (now (table .exit)) ≡ length (now (table .entry))) × ((f g : ℕ → ℕ) → f place ≡ first → g place ≡ second →
