@@ -1,6 +1,6 @@
 // One value: a whole number or none, in the code and at a place of a lent buffer. The planner works with values through these functions
-// alone, and what they promise is said over a width (model/specs/Width.antt), so that a planner of wider values differs from this one in its
-// `use` lines.
+// alone, and what they promise is said over a width (model/specs/Width.antt), so that a planner of wider values differs from this one only
+// in its `use` lines.
 ghost use mathlib.Core.Path.{_≡_};
 ghost use mathlib.Core.Bool.{false};
 ghost use mathlib.Core.Option.{none, some};
