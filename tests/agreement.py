@@ -41,9 +41,9 @@ LARGEST_SPEEDS = {1: 8, 2: 8, 3: 8, 4: 4, 5: 2, 6: 1}
 
 
 def some_speeds(chance, largest_speed):
-    """Speeds with gaps. Where the energy is so much for a unit of work, or nothing, work costs
-    the same now and later; where it is one of a few, speeds cost the same. Either way equal
-    costs are frequent."""
+    """Speeds with gaps. Where the energy grows evenly with the speed, or is 0, work costs the
+    same now and later; where it is one of a few numbers, different speeds cost the same.
+    Either way equal costs are frequent."""
     step = chance.randint(1, 9)
     energy_of = chance.choice([
         lambda speed: 0,
@@ -57,8 +57,8 @@ def some_speeds(chance, largest_speed):
 
 
 def some_jobs(chance, bound, largest_speed):
-    """Jobs that the largest speed always finishes within a slot or, half the time, jobs that
-    alone are bearable: those together are sometimes too much, and 12."""
+    """Jobs that the largest speed always finishes within a slot or, half the time, jobs each
+    of which is bearable alone: together they are sometimes too much, and the number is 12."""
     single = chance.random() < 0.5
     heaviest = chance.choice((1, 1, 3, 255))
     jobs = []
@@ -89,7 +89,7 @@ def accepted_sheet(chance):
 
 
 def with_number(chance, entries, part, number):
-    """The entries with another number as this part of one of them."""
+    """The entries, with another number for this part of one of them."""
     changed = [list(entry) for entry in entries]
     chance.choice(changed)[part] = number
     return tuple(tuple(entry) for entry in changed)
@@ -107,7 +107,7 @@ def cut_short(chance, sheet):
 
 
 def add_bytes(chance, sheet):
-    """Bytes after a sheet that is often refused with 9 besides; 3 comes first."""
+    """Bytes after a sheet that would often be refused with 9 as well; 3 comes first."""
     sheet = replace(sheet, horizon=chance.choice((sheet.horizon, 200)))
     return sheet_bytes(sheet) + chance.randbytes(chance.choice((1, 2, PROGRAM_SHEET_BYTES)))
 
@@ -161,7 +161,7 @@ def spoil_jobs(chance, sheet):
 
 
 def raise_horizon(chance, sheet):
-    """The least T that 9 refuses, which there is when W is not 1."""
+    """The least T that 9 refuses; there is one when W is not 1."""
     sheet = replace(sheet, horizon=1, jobs=with_number(chance, sheet.jobs, 0, 2))
     while refuse_sheet(sheet) == 0:
         sheet = replace(sheet, horizon=sheet.horizon + 1)
@@ -176,7 +176,7 @@ def raise_weights(chance, sheet):
 
 
 def raise_queues(chance, sheet):
-    """A D and an M with more than 65,535 queues; 9, which the longer T often is, comes first."""
+    """A D and an M with more than 65,535 queues; the longer T is often refused with 9 first."""
     bound, least = chance.choice(((5, 6), (6, 4)))
     jobs = tuple((weight, size, min(deadline, bound)) for weight, size, deadline in sheet.jobs)
     speeds = (sheet.speeds[0], (chance.randint(least, 8), sheet.speeds[-1][1]))
@@ -184,8 +184,8 @@ def raise_queues(chance, sheet):
 
 
 def raise_values(chance, sheet):
-    """A T with which one row more of values than there is room for is needed, while T rows
-    of them, as the plan has, would have room."""
+    """A T that needs one row of values more than there is room for, while there would be room
+    for T rows, as many as the plan has."""
     speeds = (sheet.speeds[0], (chance.randint(2, 4), sheet.speeds[-1][1]))
     jobs = ((1, chance.choice((0, 1, 255)), 1),)
     sheet = Sheet(chance.randint(3, 4), speeds, 1, jobs)

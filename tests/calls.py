@@ -35,9 +35,9 @@ class NotUnderstood(Exception):
 
 @dataclass(frozen=True)
 class Count:
-    """Speeds or jobs of which there is a count alone, since it is above the places there
-    are. Such a count is refused before any entry is looked at; looking at one here is an
-    error of Python."""
+    """Speeds or jobs of which only the count is kept, since it is above the number of places.
+    Such a count is refused before any entry is looked at; looking at one here is an error
+    of Python."""
 
     count: int
 
@@ -366,7 +366,7 @@ def sum_places(memory, words, name):
 
 
 def each(function, *names):
-    """The function for each of these second words, which it is told."""
+    """The function for each of these second words; the word is passed to it."""
     return {name.encode(): lambda memory, words, name=name: function(memory, words, name)
             for name in names}
 

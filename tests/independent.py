@@ -249,7 +249,7 @@ def plan_row(sheet, slot, choices_of_queues, numbers, next_values):
 def plan_sheet(sheet):
     """(number, N, least energy, values, plan), the last two for every slot and every
     bearable queue, also those that "can't be reached from empty". It is kept, and whoever
-    asks again gets the same lists: they are to be looked at alone."""
+    asks again gets the same lists: they must not be changed."""
     number = refuse_sheet(sheet)
     if number != 0:
         return number, 0, 0, [], []

@@ -50,8 +50,8 @@ MOST_SHOWN = 5
 SECONDS = 600
 MARGIN = 4  # so many places past what is needed are looked at
 
-# Every number that a call can give. A row gives none: it is a part, or empty for a number or
-# since the slot is not below T.
+# Every number that a call can give. A row gives no number: it is a part of the plan, which is
+# empty on a refusal or where the slot is not below T.
 ANSWERS = {
     "read": (*range(0, 11),),
     "write": (0, *range(4, 12)),
@@ -126,7 +126,7 @@ def some_entry(chance, sheet):
 
 def no_entry(chance, sheet):
     """A size and a deadline that are those of an entry but for one of them, of one past the
-    counts, or of none at all; by chance there is an entry that has them."""
+    counts, or of none at all; by chance there may be an entry that has them."""
     size, deadline = some_entry(chance, sheet)
     return chance.choice(((size + 1, deadline), (size, deadline + 1), (size, 0), (0, deadline),
                           (NUMBER, deadline), (size, NUMBER), (NUMBER, NUMBER)))
@@ -151,7 +151,7 @@ def read_bytes(script, data):
 
 
 def read_damaged(script, place):
-    """A damaged sheet, so that what is read over is another one or none."""
+    """A read of a damaged sheet, so that the next read replaces another sheet or none."""
     damage = DAMAGES[place % len(DAMAGES)]
     read_bytes(script, damage(script.chance, accepted_sheet(script.chance)))
     script.say(script.chance.choice(("show sheet", "show speeds", "show jobs")))
@@ -184,8 +184,8 @@ def past_lines(chance, sheet):
 
 
 def put_sheet(script, sheet):
-    """The sheet into memory: read or, where that is refused or by chance is not tried, set line
-    by line in any order."""
+    """Puts the sheet into memory: read or, where that is refused or by chance is not tried,
+    set line by line in any order."""
     chance, lines = script.chance, []
     if chance.random() < 0.4:
         script.say(f"bytes{spaced(sheet_bytes(sheet), '02x')}")
@@ -255,7 +255,7 @@ def call_plan(script):
 
 
 def call_row(script):
-    """A row of one of the first slots, the last ones, and slots that there are not."""
+    """A row of one of the first slots, of the last one, or of a slot that there is not."""
     horizon = script.memory.sheet().horizon
     slot = script.chance.choice((0, 1, max(horizon, 1) - 1, horizon, min(horizon + 1, NUMBER),
                                  NUMBER))
@@ -370,8 +370,8 @@ def slow_state(chance, sheet):
 
 
 def damages(chance, sheet, right):
-    """(state, byte): plan bytes that should not stand at the state's place. `right` is what
-    the byte of a state is."""
+    """(state, byte): plan bytes that should not stand at the state's place. `right` gives
+    the byte that stands there."""
     speeds = [speed for speed, _ in sheet.speeds]
     gaps = [byte for byte in range(BYTE) if byte not in speeds]
     state = right_state(chance, sheet)
@@ -434,8 +434,8 @@ def spoiled(chance, sheet, number):
 
 
 def call_all(script, sheet):
-    """Every call, on whatever stands in memory, in any order; the sheet has arrivals and
-    queues to offer."""
+    """Every call, on whatever stands in memory, in any order; arrivals and queues are
+    taken from the sheet."""
     chance = script.chance
     calls = [
         call_write, call_plan, call_row, call_list,
@@ -506,8 +506,8 @@ def add_edge(script, sheet, name):
 
 
 def add_sums(script):
-    """Arrivals that, with what waits, make up just what a signed byte or a byte would take for
-    less than it is: no queue can bear one, and no plan has one."""
+    """Arrivals that, with what waits, come to just what wraps in a signed byte or in a byte:
+    no queue can bear one, and no queue has a plan."""
     most = 8  # M
     sizes = [whole - waiting for whole in (128, 256) for waiting in range(1, most + 1)]
     sheet = Sheet(2, ((0, 1), (most, 2)), 1, tuple((1, size, 1 + size % 2) for size in sizes))
@@ -525,7 +525,7 @@ def add_sums(script):
 
 
 def refused_edges(chance):
-    """(accepted, refused) sheets of which the second has one slot more and is 9."""
+    """(accepted, refused) sheets: the second has one slot more and is refused with 9."""
     for _ in range(6):
         data = raise_horizon(chance, accepted_sheet(chance))
         refused = take_sheet(byte_fields(iter(data)))

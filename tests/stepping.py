@@ -1,9 +1,9 @@
 """An independent implementation of document 01's stepper: start, speed and advance.
 
-It stands on independent.py and is independent of the proved code as that is, and no more:
+It builds on independent.py and is as independent of the proved code as that is, and no more:
 written from 01 by someone who had not seen the code, with the decisions 1 to 18 of
-docs/DECISIONS.md shared. Quotation marks hold 01's own words. Number 11 is here that the plan
-bytes are fewer than T times N.
+docs/DECISIONS.md shared. Quotation marks hold 01's own words. Number 11 means here that
+there are fewer plan bytes than T times N.
 """
 
 import sys

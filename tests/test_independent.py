@@ -362,7 +362,7 @@ def check_states():
         assert both(SHEET_A, plan, state, 0, 1) == 13, state
         # Decision 10: they "are not looked at".
         assert start(SHEET_A, state) == (0, at((0, 2)))
-    # The energy that was there counts on.
+    # The energy spent before counts too.
     assert advance(SHEET_A, plan, at((1, 3), 1, 4), 0, 1) == (0, at((2, 2), 2, 5))
     # Decision 9: "falls" is tested up to D, so (0, 2) and then zeros does not fall; with
     # a D of 6 every position is tested.

@@ -1,5 +1,5 @@
--- The first pass over a row of any function from queues to values: its sums are those of the function, a bound of the function bounds them, and
--- where there is an entry they make a row after a slot. Who calls the pass says which function it is.
+-- The first pass over a row of any function from queues to values: its sums are those of the function, a bound of the function bounds them,
+-- and where there is an entry they make a row after a slot. The caller of the pass says which function it is.
 use Prim.Native.Nat.{ℕ, pred, _+_, _*_, _≤_, _<_}
 use mathlib.Core.Path.{_≡_, sym, ap, _∙_, subst}
 use mathlib.Core.Bool.{false}

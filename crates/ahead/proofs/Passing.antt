@@ -1,5 +1,5 @@
--- What the table and the row say so many steps from the first queue of a block on: the proofs of src/sums.rt and src/pass.rt stand on these
--- laws, which are over any width of a value.
+-- What the table and the row say so many steps on from the first queue of a block: the proofs of src/sums.rt and src/pass.rt stand on these
+-- laws, which hold at any width of a value.
 use Prim.Native.Nat.{ℕ, suc, pred, _+_, _-_, _*_, _≤_, _<_}
 use mathlib.Core.Path.{_≡_, sym, ap, _∙_, subst}
 use mathlib.Core.Bool.{Bool, true, false, cond}

@@ -1,5 +1,5 @@
--- What is ahead of a queue after a slot, before the arrival: the weighted sum over the entries of what a function gives of the queue with
--- each entry's arrival. It is said of any function from queues to values, none as soon as one of them is none.
+-- What is ahead of a queue after a slot, before the arrival: the weighted sum, over the entries, of what a function gives for the queue
+-- with each entry's arrival; none as soon as one of these is none. The function may be any from queues to values.
 use Prim.Native.Nat.{ℕ}
 use mathlib.Core.Option.{Option}
 use Rattle.process.specs.Recursion.{times, sumOrNone}

@@ -11,8 +11,8 @@ ghost use Rattle.rows.specs.Rows.{valueInRow, afterWith};
 ghost use Rattle.entry_lanes.specs.Lanes.{joined};
 ghost use Rattle.ahead.specs.Pass.{Given, Within, Stepped, sumLeft, stepped, riseOf};
 
-// What the row has for the queue with the arrival of the entry at a place, so many steps from the first queue of a block on, where every
-// arrival leads to a bearable queue. A lane has risen by `far` then, less what its entry lifts the last total but one in each step.
+// What the row has for the queue that is so many steps on from the first queue of a block, with the arrival of the entry at a place. Every
+// arrival there leads to a bearable queue. The lane has then risen by `far`, less what its entry lifts the last total but one in each step.
 fn value_on(
     sheet: Sheet,
     sizes: Sizes,
@@ -62,7 +62,7 @@ fn sum_of(
     sum
 }
 
-// What is ahead so many steps from the first queue of a block on; none where an arrival leads to a queue that is not bearable.
+// What is ahead so many steps on from the first queue of a block; none where an arrival leads to a queue that is not bearable.
 pub fn sum_at(
     sheet: Sheet,
     sizes: Sizes,

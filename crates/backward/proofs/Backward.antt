@@ -1,6 +1,6 @@
 -- The rows of a plan, the end row first and then slot by slot from the last one back: where each row stands in the lent memory, what a slot
 -- finds there, and that the rows behind it stay as they are while it fills its own. The proofs of src/slots.rt stand on these laws, which
--- are over any width of a value.
+-- hold at any width of a value.
 use Prim.Native.Nat.{ℕ, suc, pred, _+_, _*_, _-_, _^_, _≤_, _<_}
 use mathlib.Core.Path.{_≡_, refl, sym, ap, _∙_, subst}
 use mathlib.Core.List.{List}

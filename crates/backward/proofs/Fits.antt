@@ -1,5 +1,6 @@
--- That nothing wraps: no sum over some of the entries, no cost and no scale passes the limit that number 9 tests. No bound stands in a loop's invariant: one induction over the recursion bounds its values (value-most), the
--- passes carry any bound on (AnyRow.antt of ahead and of choose), and number 9 does the rest.
+-- That nothing wraps: no sum over some of the entries, no cost and no scale passes the limit that number 9 tests. No loop's invariant has a
+-- bound in it: one induction over the recursion bounds its values (value-most), the passes carry any bound on (AnyRow.antt of ahead and of
+-- choose), and number 9 does the rest.
 use Prim.Native.Nat.{ℕ, suc, _+_, _*_, _^_, _≤_, _<_}
 use mathlib.Core.Path.{sym, ap, _∙_}
 use native.Mathlib.Nat.{mul-le-mul, mul-le-mul-right, mul-assoc, pow-suc, pow-le-pow-right, le-trans, le-refl}

@@ -19,7 +19,7 @@ use Rattle.sheets.specs.declared.sizes.Sizes.{Sizes}
 use Rattle.ahead.specs.Sums.{sumTo}
 use Rattle.choose.specs.Choice.{byteOf}
 
--- the recursion, of a sheet
+-- the recursion, for a sheet
 
 -- the value of a queue with k slots left
 unfoldable pub valueWith : View → ℕ → Queue → Option ℕ
@@ -67,13 +67,13 @@ pub record Ready (width : Width) (counts : List ℕ) (s : View) (sizes : Sizes) 
   pub prepared : Prepared width counts s sizes
   pub in-plan : InPlan s left scale
 
--- what a slot leaves that has so many left after it: every queue, in the row of the values that begins at place `this` and in the row of the
+-- what a slot with so many left after it leaves: every queue, in the row of the values that begins at place `this` and in the row of the
 -- plan that begins at place `row`
 pub record Planned (width : Width) (s : View) (left this row : ℕ) (values₀ plan₀ values plan : List ℕ) : Type 0 where
   pub values-filled : Fills (width .places) (valueIn width) (λ i. valueWith s (suc left) (queueAt s i)) this (N s) values₀ values
   pub plan-filled : Fills 1 numberAt (λ i. byteOf (choiceWith s left (queueAt s i))) row (N s) plan₀ plan
 
--- how far the lent memory is planned: the last k slots and the end row. What lies behind both tables is what was lent
+-- how far the lent memory is planned: the last k slots and the end row. What lies behind both tables is as it was lent
 pub record PlannedFrom (width : Width) (s : View) (k : ℕ) (values₀ plan₀ values plan : List ℕ) : Type 0 where
   pub values-length : length values ≡ length values₀
   pub plan-length : length plan ≡ length plan₀

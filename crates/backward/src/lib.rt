@@ -5,7 +5,7 @@
 // two totals of a queue are the same, and few queues are like that: what is ahead of those is worked out first, one sum for each, and
 // then each speed of each queue costs one look-up. So a slot's work grows with the queues after a slot times the jobs, and with the
 // queues times the speeds, and not with queues times speeds times jobs. No queue is numbered while a slot is planned: where each look-up
-// goes is worked out once a plan, along blocks of queues.
+// goes is worked out once per plan, along blocks of queues.
 mod slots;
 
 pub use slots::fill;

@@ -17,8 +17,8 @@ ghost use Rattle.entry_lanes.specs.Lanes.{EntryTable};
 ghost use Rattle.speed_lanes.specs.Lanes.{SpeedTable};
 ghost use Rattle.backward.specs.Passes.{aheadOf, queueAfter, ValueRow, AheadRow, Prepared, Ready, Planned, PlannedFrom};
 
-// Of a slot: how many slots are left after it, the places where its row of values, the next slot's row of values and its row of the plan
-// begin, and W to the power of the slots left, this one counted.
+// A slot as it is planned: how many slots are left after it, the places where its row of values, the next slot's row of values and its row
+// of the plan begin, and W to the power of the slots left, this one counted.
 pub struct Slot {
     pub left: u32,
     pub this: usize,
@@ -55,8 +55,8 @@ fn slot_with(queues: usize, horizon: u32, left: u32, scale: Value) -> Slot
     }
 }
 
-// The first pass over the next slot's values: what is ahead of every queue after the slot, from the buffer's first place on. Of what
-// every pass is given (Ready) it looks at the counts no more: the lanes were worked out by them.
+// The first pass over the next slot's values: what is ahead of every queue after the slot, from the buffer's first place on. Every pass is
+// given the counts (Ready), but this one does not look at them: the lanes were worked out from them.
 fn fill_ahead(
     counts: &[u32; 2352],
     sheet: Sheet,
@@ -75,7 +75,7 @@ fn fill_ahead(
     ahead::fill(sheet, sizes, lanes, slot.next, values, ahead);
 }
 
-// The second pass over what is ahead: the slot's row of values and its row of the plan. Nor does it look at the counts.
+// The second pass over what is ahead: the slot's row of values and its row of the plan. It does not look at the counts either.
 fn fill_row(
     counts: &[u32; 2352],
     sheet: Sheet,
@@ -130,8 +130,8 @@ fn fill_slot(
     fill_row(counts, sheet, sizes, slot, ahead, values, plan, speed_lanes);
 }
 
-// Every slot, the last one first. What is ahead stands in an array of its own, at one place for each of at most 7,084 queues after a slot
-// where there are at most 65,535 queues; so a slot's row could be written over the next slot's.
+// Every slot, the last one first. What is ahead stands in an array of its own, one place for each queue after a slot: at most 7,084 of them
+// where there are at most 65,535 queues. (So a slot's row could even be written over the next slot's.)
 fn fill_slots(
     counts: &[u32; 2352],
     sheet: Sheet,
@@ -172,8 +172,8 @@ fn fill_slots(
     }
 }
 
-// The end row and every slot. The lanes have no slot in them, and are worked out once: two columns of 32 places and a line for each of at
-// most 969 blocks, two columns of 9 places and a line for each of at most 7,084.
+// The end row and every slot. The lanes are the same for every slot, and are worked out once: for the entries two columns of 32 places and
+// a line for each of at most 969 blocks, for the speeds two columns of 9 places and a line for each of at most 7,084.
 pub fn fill(counts: &[u32; 2352], sheet: Sheet, sizes: Sizes, values: &mut [u64], plan: &mut [u8])
     requires { ⌜ Prepared width (now counts) (viewOf sheet) sizes × (planNeeded (viewOf sheet) ≤ length (now plan)) ×
         (valuePlaces width (viewOf sheet) ≤ length (now values)) ⌝ }

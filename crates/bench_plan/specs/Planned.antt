@@ -1,5 +1,5 @@
--- What the benchmark's function leaves in lent memory: what `plan` leaves of the sheet that `read` answers, and nothing new where the bytes
--- are refused.
+-- What the benchmark's function leaves in lent memory: what `plan` leaves for the sheet that `read` answers; where the bytes are refused,
+-- it is as it was.
 use Prim.Native.Nat.{ℕ, zero, suc}
 use mathlib.Core.Path.{_≡_}
 use mathlib.Core.List.{List}
@@ -13,7 +13,7 @@ abbrev pub LeavesRead : ℕ → View → (values₀ plan₀ values plan : List �
 LeavesRead zero s values₀ plan₀ values plan a = Leaves narrow s values₀ plan₀ values plan a
 LeavesRead (suc number) s values₀ plan₀ values plan a = Untouched (suc number) values₀ plan₀ values plan a
 
--- of the planner's answer the function hands the number on
+-- of the planner's answer the function hands on the number alone
 pub record IsPlanned (bytes values₀ plan₀ values plan : List ℕ) (number : ℕ) : Type 0 where
   pub answer : PlanAnswer
   pub number-is : number ≡ answer .number

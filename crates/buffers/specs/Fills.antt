@@ -16,8 +16,7 @@ pub record Fills {A : Type 0} (places : ℕ) (reader : List ℕ → ℕ → A) (
   pub filled : (i : ℕ) → i < n → reader after (from + i) ≡ f i
   pub outside : (p : ℕ) → (p < from * places) ⊎ ((from + n) * places ≤ p) → getD after p 0 ≡ getD before p 0
 
--- of the things from place `from` on those stand there of which `done` holds, f i each; a place that belongs to none of these holds what it
--- held
+-- from place `from` on stands each thing f i for which `done` holds of i; a place that belongs to none of these holds what it held
 pub record FillsWhere {A : Type 0} (places : ℕ) (reader : List ℕ → ℕ → A) (f : ℕ → A) (from : ℕ) (done : ℕ → Type 0) (before after : List ℕ) :
     Type 0 where
   pub same-length : length after ≡ length before

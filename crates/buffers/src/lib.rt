@@ -1,5 +1,5 @@
-// What filling a lent buffer leaves, and laying bytes over it, as definitions (specs/) and laws (proofs/), for every crate that does so; and
-// the one function that lays bytes.
+// What a lent buffer holds once it is filled, or once bytes are laid over it: definitions (specs/) and laws (proofs/) for every crate that
+// does so; and the one function that lays bytes.
 ghost use Prim.Native.Nat.{_+_, _≤_};
 ghost use lib.ListN.{length};
 ghost use Rattle.buffers.specs.Laid.{Laid};

@@ -7,13 +7,13 @@ struct Byte {
     byte: u8,
 }
 
-// How long a line is, and greater than its room where it is too long for that; and whether there was one.
+// How long a line is, more than its room holds where it is too long; and whether there was a line.
 pub struct Line {
     pub length: usize,
     pub present: bool,
 }
 
-// Reads one byte, and no more, so that nothing is to be kept between lines.
+// Reads one byte, and no more, so that nothing has to be kept between lines.
 fn next_byte() -> Byte {
     let mut one = [0; 1];
     let got = libc::read(STDIN_FILENO, &mut one);
@@ -24,7 +24,7 @@ fn next_byte() -> Byte {
     }
 }
 
-// Puts a byte behind so many of a line, and answers how many there are then.
+// Puts a byte behind the first `length` of a line; answers how many there are then, 65,537 where there is no room.
 fn put_byte(room: &mut [u8; 65536], length: usize, byte: u8) -> usize {
     if length < 65536 {
         room[length] = byte;
@@ -33,8 +33,8 @@ fn put_byte(room: &mut [u8; 65536], length: usize, byte: u8) -> usize {
     65537
 }
 
-// The next line, without its line feed. A loop has to end, and nothing says that a line does: it counts its turns down, from a number that
-// no run uses up.
+// The next line, without its line feed. The loop must be proved to end, and nothing says that a line does. So it counts its turns down,
+// from a number that no run uses up.
 pub fn next_line(room: &mut [u8; 65536]) -> Line {
     let mut count = 0;
     let mut turns = 18446744073709551615u64;

@@ -63,11 +63,11 @@ const OF_PLAN: u64 = 1000000;
 
 const OF_BYTES: u64 = 65536;
 
-// Where a byte in hex must stand, it is the greatest number.
+// Stands for the greatest number where a byte in hex is asked for.
 pub const HEX_BYTE: u64 = 0;
 
-// How many places a line reaches: as many as it has numbers; as many as it has behind the first, which is a place; as many as its second
-// number says, and the first is a place; all that are lent; or just so many.
+// How many places a line reaches: one for each of its numbers; one for each number behind the first, which is a place; as many as its
+// second number says, the first being a place; all that are lent; or a fixed count.
 pub const EACH: u64 = 0;
 
 pub const REST: u64 = 1;
@@ -82,8 +82,8 @@ const ALL_JOBS: u64 = 96;
 
 const ALL_FIELDS: u64 = 118;
 
-// A kind is the place of its row. The rows that put numbers into memory, those that put bytes, those that ask and those that call stand
-// together.
+// A kind is the place of its row. Rows of one sort stand together: those that put numbers into memory, those that put bytes, those that ask
+// and those that call.
 pub const SET_SPEED: usize = 5;
 
 pub const SET_JOB: usize = 6;
@@ -165,8 +165,8 @@ const LENT_PLAN: u64 = crate::memory::PLAN_LENT as u64;
 const LENT_BYTES: u64 = crate::memory::BYTES_LENT as u64;
 
 // A row: the first word and the second, or 0; the least and the greatest count of numbers behind them; the greatest number that may stand
-// first, and later; the first place that it reaches, before a number of the line is added; the buffer, by its word, where the places must
-// be lent ones of it; how many places it reaches.
+// first, and later; the first place that it reaches, before a number of the line is added; the word of the buffer of which the places must
+// be lent, or 0; how many places it reaches.
 const ROWS: [[u64; 9]; 39] = [
     [SET, BOUND, 1, 1, MOST, 0, AT_BOUND, 0, EACH],
     [SET, SPEEDS, 1, 1, MOST, 0, AT_SPEED_COUNT, 0, EACH],
@@ -224,12 +224,12 @@ pub const BUFFER: usize = 7;
 
 pub const REACH: usize = 8;
 
-// One function names the constant: wherever it is named, the check spells it out.
+// Only this function names the constant, since the checker spells it out wherever it is named.
 fn all_rows() -> [[u64; 9]; 39] {
     ROWS
 }
 
-// What a column says of a kind; 0 of a kind without a row.
+// What a column says of a kind; 0 for a kind without a row.
 pub fn cell(kind: usize, column: usize) -> u64 {
     let rows = all_rows();
     if 38 < kind {

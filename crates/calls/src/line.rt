@@ -75,7 +75,7 @@ fn print_problem(request: Request) {
     print_word_problem(request);
 }
 
-// Answers a line that memory has nothing to do with, and counts it where it is not understood.
+// Answers a line that does not use memory, and counts it where it is not understood.
 fn settle(line: &[u8], request: Request, wrong: u64) -> u64 {
     if request.kind == NOTHING {
         print_words(b"not understood: ");
@@ -90,7 +90,7 @@ fn settle(line: &[u8], request: Request, wrong: u64) -> u64 {
     wrong
 }
 
-// Makes a line's call on each buffer as far as it is lent.
+// Makes a line's call with the lent part of each buffer.
 fn lend(numbers: &mut [u64; 816947], plan: &mut [u8], bytes: &mut [u8], request: Request) {
     let plan_count = smaller(numbers[PLAN_LENT] as usize, plan.len());
     let byte_count = smaller(numbers[BYTES_LENT] as usize, bytes.len());
@@ -102,7 +102,7 @@ fn lend(numbers: &mut [u64; 816947], plan: &mut [u8], bytes: &mut [u8], request:
     );
 }
 
-// Answers a line, of whose buffer so many places are lent.
+// Answers a line; `lent` is how many places of its buffer are lent.
 fn answer(
     numbers: &mut [u64; 816947],
     plan: &mut [u8; 1000000],
@@ -139,7 +139,7 @@ fn lent_of(numbers: &[u64; 816947], kind: usize) -> u64 {
     numbers[VALUES_LENT]
 }
 
-// Answers a line of so many bytes, of which its room holds as many as it can.
+// Answers a line of `length` bytes, of which `room` holds as many as fit.
 pub fn answer_line(
     numbers: &mut [u64; 816947],
     plan: &mut [u8; 1000000],

@@ -1,4 +1,4 @@
-// Reads a script from standard input, a line for a call, and answers each line: docs/CALLS.md is its page. It is thin: what it calls is
+// Reads a script from standard input, a line for a call, and answers each line; docs/CALLS.md describes it. It is thin: what it calls is
 // proved, and it only lends the memory. What it prints is tested and not proved.
 mod input;
 mod kinds;

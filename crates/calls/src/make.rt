@@ -30,7 +30,7 @@ use model::Sheet;
 use planner::PlanAnswer;
 use stepper::Stepped;
 
-// The number of a call and one more number, to the line's end.
+// Prints the number of a call and one more number, and ends the line.
 fn print_answer(name: &[u8], number: u32, more: &[u8], other: u64) {
     print_field(name, number as u64);
     print_field(more, other);
@@ -56,7 +56,7 @@ fn make_sheet(numbers: &mut [u64; 816947], plan: &[u8], bytes: &[u8], kind: usiz
     }
 }
 
-// `plan`, into so many of the values.
+// `plan`, lent the first `count` values.
 fn plan_into(sheet: Sheet, numbers: &mut [u64], count: usize, plan: &mut [u8]) -> PlanAnswer {
     let lent = smaller(count, numbers.len());
     planner::plan(sheet, &mut numbers[..lent], plan)
@@ -73,7 +73,7 @@ fn make_plan(numbers: &mut [u64; 816947], sheet: Sheet, plan: &mut [u8], kind: u
     }
 }
 
-// The least energy of `list`: what the line says, or the last plan.
+// The least energy of `list`: the one that the line gives, or that of the last plan.
 fn least_of(least: u64, request: Request) -> u64 {
     if request.count == 0 {
         return least;
@@ -93,7 +93,7 @@ fn list(sheet: Sheet, least: u64, plan: &[u8], bytes: &mut [u8]) {
     print_answer(b"list ", answer.number, b", length ", answer.length as u64);
 }
 
-// Either.
+// `write` or `list`, where the line asks for one of them.
 fn make_text(sheet: Sheet, least: u64, plan: &[u8], bytes: &mut [u8], kind: usize) {
     if kind == CALL_WRITE {
         write(sheet, bytes);
@@ -151,7 +151,7 @@ fn step(numbers: &mut [u64; 816947], sheet: Sheet, plan: &[u8], request: Request
     }
 }
 
-// Makes a line's call with the lent plan: each of these looks whether the line is its own.
+// Makes a line's call with the lent plan: each of these functions does nothing where the line is not its own.
 fn make_with_plan(numbers: &mut [u64; 816947], plan: &mut [u8], request: Request) {
     let sheet = sheet_of(numbers);
     make_plan(numbers, sheet, plan, request.kind);

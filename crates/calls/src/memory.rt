@@ -1,5 +1,5 @@
-// What one line leaves and the next one uses, as far as it is numbers: they stand in one lent array, the values first and the rest behind
-// them. A sheet and a state are made of it for a call, and put back.
+// The numbers that one line leaves and the next one uses. They stand in one lent array, the values first and the rest behind them. For a
+// call a sheet and a state are made of them, and what it answers is put back.
 use model::Job;
 use model::Sheet;
 use model::Speed;
@@ -37,7 +37,7 @@ pub const BYTES_LENT: usize = 816945;
 
 pub const WRONG: usize = 816946;
 
-// The number of 32 bits that a number of at most 32 bits is.
+// A number of at most 32 bits, as a `u32`.
 pub fn narrow(number: u64) -> u32 {
     (number % 4294967296) as u32
 }
@@ -119,7 +119,7 @@ fn number_of_job(one: Job, which: usize) -> u32 {
     one.deadline
 }
 
-// One number of the tables of a sheet: those of all nine speeds and then, two places behind them, of all 32 jobs.
+// One number of the tables of a sheet: those of all nine speeds and, after two other places, those of all 32 jobs.
 fn number_in_tables(speeds: [Speed; 9], jobs: [Job; 32], place: usize) -> u32 {
     if place < 18 {
         return number_of_speed(speeds[place / 2], place % 2);

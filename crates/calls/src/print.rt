@@ -12,8 +12,8 @@ use crate::words::one_more;
 use libc::STDOUT_FILENO;
 ghost use Prim.Native.Nat.{_<_, _≤_};
 
-// What a walk does with each number: nothing but the checksum, or it prints a space and the number in decimal or in hex; or it prints text,
-// and its answer is the last byte instead of the checksum.
+// What a walk does with each number: it only adds it to the checksum; it also prints a space and the number, in decimal or in hex; or it
+// prints text, and answers the last byte instead of the checksum.
 pub const SILENT: u32 = 0;
 
 pub const IN_DECIMAL: u32 = 1;
@@ -38,7 +38,7 @@ pub fn print_end() {
     print_words(b"\n");
 }
 
-// A byte as text: a line feed and what can be printed as they are, any other as a question mark.
+// A byte as text: a line feed or a printable character as it is, any other byte as a question mark.
 fn print_letter(byte: u8) {
     if byte == 10 || 31 < byte && byte < 127 {
         print_words(&[byte]);
@@ -47,7 +47,7 @@ fn print_letter(byte: u8) {
     print_words(b"?");
 }
 
-// What a walk has, and one number more.
+// The checksum with one number more, which is printed where the form says so.
 fn with_number(sum: u64, number: u64, form: u32) -> u64
     requires { ⌜ sum < 4294967291 ⌝ }
     ensures { λ r. ⌜ r < 4294967291 ⌝ }
@@ -58,7 +58,7 @@ fn with_number(sum: u64, number: u64, form: u32) -> u64
     (sum * 1000003 + number % 4294967291) % 4294967291
 }
 
-// The same of a byte.
+// The same for a byte.
 fn with_byte(sum: u64, byte: u8, form: u32) -> u64
     requires { ⌜ sum < 4294967291 ⌝ }
     ensures { λ r. ⌜ r < 4294967291 ⌝ }
@@ -106,7 +106,7 @@ pub fn walk_bytes(bytes: &[u8], from: u64, count: u64, form: u32) -> u64 {
     sum
 }
 
-// How many numbers are not 0, from a place on to another, and so many before them.
+// How many numbers from place `from` up to place `to` are not 0, added to `before`.
 fn count_others(numbers: &[u64; 816947], from: usize, to: usize, before: u64) -> u64 {
     let mut others = before;
     let mut at = from;
@@ -122,7 +122,7 @@ fn count_others(numbers: &[u64; 816947], from: usize, to: usize, before: u64) ->
     others
 }
 
-// A count of a sheet, and no more than there are places.
+// A count of a sheet, but at most as many as there are places.
 fn held(count: u64, places: u64) -> u64
     requires { ⌜ places ≤ 32 ⌝ }
     ensures { λ r. ⌜ r ≤ 32 ⌝ }
@@ -133,7 +133,7 @@ fn held(count: u64, places: u64) -> u64
     places
 }
 
-// A sheet's fields in the order of its bytes, and how many other numbers are not 0, to the line's end.
+// Prints a sheet's fields in the order of its bytes, and how many other numbers are not 0, and ends the line.
 pub fn print_sheet(numbers: &[u64; 816947]) {
     let speeds = 2 * held(numbers[SPEED_COUNT], 9);
     let jobs = 3 * held(numbers[JOB_COUNT], 32);
@@ -148,7 +148,7 @@ pub fn print_sheet(numbers: &[u64; 816947]) {
     print_end();
 }
 
-// The state, to the line's end.
+// Prints the state, and ends the line.
 pub fn print_state(numbers: &[u64; 816947]) {
     print_words(b", queue");
     walk_numbers(numbers, QUEUE as u64, 6, IN_DECIMAL);

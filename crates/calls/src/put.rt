@@ -14,7 +14,7 @@ use crate::words::HEX;
 use crate::words::value_of;
 use crate::words::word_at;
 
-// Where the number for the next place is looked for: a line that fills places says one number for all, or none, which is 0.
+// Where the number for the next place is looked for: a line that fills places gives one number for all, or none, which counts as 0.
 fn behind(request: Request, from: usize, to: usize) -> usize {
     if cell(request.kind, REACH) < ALL_LENT {
         return to;
@@ -40,12 +40,12 @@ fn put_numbers(numbers: &mut [u64; 816947], line: &[u8], request: Request, lent:
     }
 }
 
-// The byte that a number of at most 255 is.
+// A number of at most 255, as a byte.
 fn byte_of(number: u64) -> u8 {
     (number % 256) as u8
 }
 
-// Puts a line's bytes, which it has in this base, into a buffer.
+// Puts a line's bytes, written in this base, into a buffer.
 fn put_bytes(bytes: &mut [u8], line: &[u8], request: Request, lent: u64, base: u64) {
     let mut at = first_place(request) as usize;
     let mut left = place_count(request, lent);

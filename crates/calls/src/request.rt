@@ -28,7 +28,7 @@ use crate::words::one_more;
 use crate::words::value_of;
 use crate::words::word_at;
 
-// How far a line is taken: there may be more of it, it is right, or what is wrong with it.
+// How far a line has been taken: there may be more of it, it is right, or something is wrong with it.
 const MORE: u32 = 0;
 
 const RIGHT: u32 = 1;
@@ -46,8 +46,8 @@ pub const TOO_MANY: u32 = 6;
 pub const NOT_LENT: u32 = 7;
 
 // The kind of a line, and how many words say it; how many numbers were taken, and the first two of them; the place behind what was taken,
-// and the place where the numbers begin that are to be put into memory; how far the line is taken, and the greatest number that might have
-// stood where it is wrong.
+// and the place where the numbers to be put into memory begin; how far the line has been taken, and the greatest number that was allowed
+// where it is wrong.
 pub struct Request {
     pub kind: usize,
     pub words: u64,
@@ -91,7 +91,7 @@ fn named(line: &[u8], first: Word) -> Request {
     begun(one, 1, first.to, MORE)
 }
 
-// A line whose kind is taken.
+// A line of which the kind has been taken.
 fn opened(line: &[u8]) -> Request {
     if line.len() == 0 {
         return begun(BLANK, 0, 0, RIGHT);
@@ -125,7 +125,7 @@ fn ended(request: Request) -> Request {
     next
 }
 
-// The number that a word says, where it is one of at most so much.
+// The number that a word says, where it is a number and at most `most`.
 fn number_of(line: &[u8], word: Word, most: u64) -> Number {
     if most == HEX_BYTE {
         if word.to < 2 || word.to - 2 != word.from {
@@ -140,7 +140,7 @@ fn number_of(line: &[u8], word: Word, most: u64) -> Number {
     number
 }
 
-// The greatest number that may stand behind so many.
+// The greatest number that may stand behind `count` others.
 fn most_behind(kind: usize, count: u64) -> u64 {
     if count == 0 {
         return cell(kind, MOST_FIRST);

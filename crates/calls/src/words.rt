@@ -27,7 +27,7 @@ pub fn one_more(count: u64) -> u64 {
     count
 }
 
-// A word and the letter before this place: a space before the word is left out, and one behind it changes nothing.
+// A word and one letter more, the one before place `behind`: a space before the word is skipped, and one after it changes nothing.
 fn with_letter(word: Word, letter: u8, behind: usize) -> Word {
     if letter != 32 {
         return Word {
@@ -59,7 +59,7 @@ pub fn word_at(line: &[u8], from: usize) -> Word {
     word
 }
 
-// The value of a letter as a digit of a base, and the base where it is none.
+// The value of a letter as a digit of a base; the base itself where it is no digit.
 fn digit_of(letter: u8, base: u64) -> u64 {
     if base == LETTERS {
         if letter == 0 {
@@ -93,7 +93,7 @@ pub fn no_number() -> Number {
     }
 }
 
-// A number and one digit more, where that is a number of 64 bits.
+// A number and one digit more, where that still fits 64 bits.
 fn with_digit(number: Number, digit: u64, base: u64) -> Number {
     if !number.right || base <= digit {
         return no_number();

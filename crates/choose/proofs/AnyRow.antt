@@ -1,5 +1,5 @@
--- The second pass over a row of any function from the queues after a slot: what a speed costs and the least are by that function, and a bound
--- of it bounds every cost. Who calls the pass says which function it is.
+-- The second pass over a row of any function from the queues after a slot: what a speed costs, and the least, go by that function, and a
+-- bound of it bounds every cost. The caller of the pass says which function it is.
 use Prim.Native.Nat.{ℕ, _+_, _*_, _≤_, _<_}
 use mathlib.Core.Path.{_≡_, refl, sym, ap, _∙_, subst}
 use mathlib.Core.Bool.{Bool, true, false}

@@ -1,5 +1,5 @@
 -- What the table and the buffer say in the queue of a block that has a last total: the proofs of src/least.rt and src/row.rt stand on these
--- laws, which are over any width of a value.
+-- laws, which hold at any width of a value.
 use Prim.Native.Nat.{ℕ, suc, pred, max, _+_, _-_, _*_, _≤_, _<_}
 use mathlib.Core.Path.{_≡_, refl, sym, ap, _∙_, subst}
 use mathlib.Core.Bool.{false}

@@ -1,4 +1,4 @@
--- What the functions of the second pass ask and leave, over any width of a value and whatever is ahead.
+-- What the functions of the second pass ask for and what they leave, over any width of a value and whatever is ahead.
 use Prim.Native.Nat.{ℕ, _+_, _*_, _≤_, _<_}
 use mathlib.Core.Path.{_≡_}
 use mathlib.Core.List.{List}
@@ -16,8 +16,8 @@ use Rattle.sheets.specs.declared.sizes.Sizes.{Sizes}
 use Rattle.speed_lanes.specs.Lanes.{SpeedTable}
 use Rattle.choose.specs.Choice.{costAt, leastIn, byteOf}
 
--- what the pass is given: a sheet whose fields are in range, its sizes and its table, a buffer of what is ahead, and a scale by which no
--- cost reaches the limit of a value
+-- what the pass is given: a sheet whose fields are in range, its sizes and its table, a buffer of what is ahead, and a scale with which no
+-- cost exceeds the limit of a value
 pub record Given (width : Width) (s : View) (sizes : Sizes) (scale : Option ℕ) (lanes ahead : List ℕ) : Type 0 where
   pub fields : fieldsRefusal s ≡ 0
   pub measured : Measured sizes
@@ -26,7 +26,7 @@ pub record Given (width : Width) (s : View) (sizes : Sizes) (scale : Option ℕ)
   pub fits : (n j : ℕ) → n < sizes .queues → j < s .speedCount →
       Fits width (costAt width (sizes .largest) (sizes .bound) s ahead scale (queueWith (sizes .largest) (sizes .bound) n) j)
 
--- the queue of block b with the last total x is one
+-- block b has a queue with the last total x
 pub record Within (sizes : Sizes) (b x : ℕ) : Type 0 where
   pub block-low : b < sizes .after
   pub last-low : lowestOf (sizes .largest) (sizes .bound) b ≤ x

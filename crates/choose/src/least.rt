@@ -16,7 +16,7 @@ ghost use Rattle.choose.specs.Pass.{Given, Within};
 // The speed of a queue that has none.
 const NO_SPEED: u32 = 255;
 
-// The least so far: a speed and what it costs; none of both where there is no speed yet.
+// The least so far: a speed and what it costs; 255 and none where there is no speed yet.
 pub struct Chosen {
     pub speed: u32,
     pub value: Value,

@@ -1,4 +1,4 @@
--- The recurrence of 01 as one test of a whole table, row from row, which the checker computes over the constant.
+-- The recurrence of 01 as one test of a whole table, each row by the one before it, which the checker computes over the constant.
 use Prim.Native.Nat.{ℕ, zero, suc, _+_, _*_, _-_}
 use mathlib.Core.Bool.{Bool, cond}
 use mathlib.Core.List.{List}

@@ -1,12 +1,12 @@
 // The constant continuation counts of document 01, and the one function that reads them.
 //
-// A constant is laid out anew in each function that names it, 9,408 bytes, which a read of one count cannot bear. So whoever needs counts
-// asks for the table once and lends it.
+// Each function that names a constant builds it anew, and 9,408 bytes are too many for reading one count. So whoever needs counts asks for
+// the table once and lends it.
 ghost use mathlib.Core.Path.{_≡_};
 ghost use Rattle.model.specs.Queue.{continuationCount};
 ghost use Rattle.counts.specs.Counts.{InTable, HoldsCounts};
 
-// By largest speed 1 to 8, positions left to fill 0 to 5 and slack 0 to 48; zero where the slack is never met.
+// By largest speed 1 to 8, positions left to fill 0 to 5 and slack 0 to 48; zero where that slack never occurs.
 const COUNTS: [u32; 2352] = [
     // largest speed 1, 0 positions to fill: slacks 0 to 6
     1,
@@ -2417,7 +2417,7 @@ pub fn table() -> [u32; 2352]
     COUNTS
 }
 
-// How many continuations there are with the largest speed, the positions left to fill and the slack.
+// How many continuations there are for this largest speed, so many positions left to fill and this slack.
 pub fn count(counts: &[u32; 2352], largest: u32, left: usize, slack: u32) -> usize
     requires { ⌜ HoldsCounts (now counts) × InTable largest left slack ⌝ }
     ensures { λ r. ⌜ r ≡ continuationCount largest left slack ⌝ }

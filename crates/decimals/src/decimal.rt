@@ -1,4 +1,4 @@
-// A number in decimal: how long it is, and put at a place of a lent buffer.
+// A number in decimal: how long it is, and how it is put at a place of a lent buffer.
 ghost use mathlib.Core.Path.{_≡_};
 ghost use Prim.Native.Nat.{_+_, _^_, _≤_, _<_};
 ghost use lib.ListN.{length};

@@ -1,6 +1,6 @@
--- Demand 1, over the calls' actual contracts. Of each call its number is n exactly when a test of number n fails and every earlier one
--- passes, 0 exactly when all pass (`Tells`, of the call's lines in the model, or of `readLines`); it is one of the numbers listed (`OneOf`);
--- and a refused call answers and leaves what document 01 says.
+-- Demand 1, over the calls' actual contracts. Each call's number is n exactly when a test of number n fails and every earlier one passes, 0
+-- exactly when all pass (`Tells`, of the call's lines in the model, or of `readLines`); it is one of the numbers listed (`OneOf`); and a
+-- refused call answers and leaves what document 01 says.
 use Prim.Native.Nat.{ℕ, zero, suc, _≤_}
 use mathlib.Core.Path.{_≡_, refl, sym, ap, _∙_}
 use mathlib.Core.Bool.{Bool, true, false}

@@ -1,5 +1,5 @@
--- No count wraps or goes below nothing, over the actual contracts of `speed` and `advance`: with whatever plan bytes, where an advance answers
--- 0, each total after it is what the speed told left of the one before, or nothing, and what came; and every count has room in its 32 bits.
+-- No count wraps or goes below 0, over the actual contracts of `speed` and `advance`: whatever the plan bytes, where an advance answers 0,
+-- each total after it is what the speed left of the one before, or 0, plus what came; and every count has room in its 32 bits.
 use Prim.Native.Nat.{ℕ, suc, _+_, _*_, _-_, min, _≤_, _<_}
 use mathlib.Core.Path.{_≡_, refl, sym, ap, _∙_, subst}
 use mathlib.Core.Bool.{Bool, true, false, cond}

@@ -1,5 +1,5 @@
--- Demand 3 over two results of the planner's actual contract, neither refused: of sheets paired job by job, at each slot and at queues of
--- which one is nowhere longer, where the first plan's place is not none the second's is not none, and it is no greater.
+-- Demand 3 over two results of the planner's actual contract, neither refused: for sheets paired job by job, at each slot and at queues of
+-- which the second is nowhere longer, where the first plan's value is not none, the second's is not none either, and it is no greater.
 use Prim.Native.Nat.{ℕ, _-_, _≤_}
 use mathlib.Core.Path.{_≡_, sym, _∙_, subst}
 use mathlib.Core.List.{List}

@@ -1,4 +1,4 @@
--- A run of the stepper as single jobs see it: those that wait where it begins, and those that come, are served earliest deadline first at
+-- A run of the stepper as single jobs see it: those that wait when it begins, and those that come, are served earliest deadline first at
 -- the speeds told.
 use Prim.Native.Nat.{ℕ}
 use mathlib.Core.Path.{_≡_}

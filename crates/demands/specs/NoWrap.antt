@@ -1,5 +1,5 @@
--- What a slot does to each count of a state, in plain whole numbers, so that nobody needs to know a minus or a width. The governor that
--- Harzschale replaces kept its waiting work in a signed byte, and read a backlog of 130 as minus 126.
+-- What a slot does to each count of a state, in plain whole numbers, so that nobody needs to know how a subtraction or a width behaves. The
+-- governor that Harzschale replaces kept its waiting work in a signed byte, and read a backlog of 130 as minus 126.
 use Prim.Native.Nat.{ℕ, suc, _+_, _*_, _≤_, _<_}
 use mathlib.Core.Path.{_≡_}
 use mathlib.Core.Logic.{_⊎_}
@@ -13,7 +13,8 @@ use Rattle.stepper.specs.declared.state.State.{State}
 abbrev pub work : State → ℕ → ℕ
 work x u = total (x .queue) u
 
--- what a slot at a speed leaves of some work: what with the speed makes up the work, or nothing where the work is less than the speed
+-- what a slot at a speed leaves of some work: what makes up the work together with the speed, or nothing where the work is less than the
+-- speed
 abbrev pub IsLeft : (before speed left : ℕ) → Type 0
 IsLeft before speed left = (left + speed ≡ before) ⊎ ((before < speed) × (left ≡ 0))
 
@@ -29,13 +30,13 @@ pub record IsCarried (before speed size deadline u after : ℕ) : Type 0 where
   pub is-added : IsAdded size deadline u added
   pub adds-up : after ≡ left + added
 
--- every count is below 2^32, so that it stands in its 32 bits as it is
+-- every count is below 2^32, so that its 32 bits hold it as it is
 pub record Fits (x : State) : Type 0 where
   pub work-fits : (u : ℕ) → work x u < 4294967296
   pub slot-fits : x .slot < 4294967296
   pub energy-fits : x .energy < 4294967296
 
--- a speed that is told in a state is on the sheet, and enough for what is due within one slot
+-- a speed that is answered in a state is on the sheet, and enough for what is due within one slot
 pub record SpeedEnough (sheet : Sheet) (x : State) (speed : ℕ) : Type 0 where
   pub on-sheet : T (onSheet (viewOf sheet) speed)
   pub enough : work x 1 ≤ speed
@@ -45,7 +46,7 @@ pub record NoneWraps (sheet : Sheet) (before : State) (speed size deadline : ℕ
   -- "w'(u) = w(u+1) - s, or 0 if that is negative, with w(D) standing for w(D+1)"; "c is added to w'(u) for every u from d to D"
   pub carried : (u : ℕ) → 1 ≤ u → u < viewOf sheet .bound → IsCarried (work before (suc u)) speed size deadline u (work after u)
   pub carried-last : let D = viewOf sheet .bound in IsCarried (work before D) speed size deadline D (work after D)
-  -- what is left can be finished: no total is above u times M, and past D nothing stands
+  -- what is left can be finished: no total is above u times M, and past D all are 0
   pub finishable : (u : ℕ) → u ≤ viewOf sheet .bound → work after u ≤ u * M (viewOf sheet)
   pub unused : (u : ℕ) → viewOf sheet .bound < u → work after u ≡ 0
   pub slot-is : after .slot ≡ suc (before .slot)

@@ -23,7 +23,7 @@ abbrev pub queueOfState : Sheet → State → Queue
 queueOfState sheet x = queueOf (viewOf sheet) (stateOf x)
 
 -- a state that a run may begin with: "a queue that has one", a value at the state's slot; and 13 finds nothing else wrong with it. That a
--- queue stands in six places is what the machine gives
+-- queue stands in six places is ensured by the machine
 pub record Begins (sheet : Sheet) (from : State) : Type 0 where
   pub six : length (from .queue) ≡ positions
   pub unused : T (unusedZero (viewOf sheet .bound) (from .queue))

@@ -1,1 +1,1 @@
-// The three demands as theorems (proofs/). It has no code.
+// The three demands as theorems (proofs/). This crate has no code.

@@ -1,4 +1,4 @@
--- The first queue after a slot of a block, in its six places: the last total stands twice.
+-- The first queue of a block of queues after a slot, in its six places: the last total stands twice.
 use Prim.Native.Nat.{ℕ, zero, suc, pred, _*_, _-_, _≤_, _<_}
 use mathlib.Core.Path.{_≡_, refl, sym, ap, _∙_, subst}
 use mathlib.Core.List.{List, [], _∷_}

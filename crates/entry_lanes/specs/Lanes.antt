@@ -1,7 +1,7 @@
 -- The lanes of the entries. Along a block of queues after a slot (queues/specs/Blocks.antt), before the arrival, the last two totals rise
--- together, by one from each to the next. With an entry's arrival they do so too, and the number of the queue then rises by so much in the
--- first step and by one less in each later one (`risen`). So it is worked out for the first queue of each block alone, once a plan: a
--- table has it (rows/specs/Tables.antt).
+-- together, by one from each queue to the next. With an entry's arrival they do so too, and the number of the queue then rises by some
+-- number in the first step and by one less in each later step than in the one before (`risen`). So it is worked out for the first queue of
+-- each block alone, once per plan, and kept in a table (rows/specs/Tables.antt).
 use Prim.Native.Nat.{ℕ, zero, suc, pred, min, _+_, _*_, _-_, _≤_, _<_}
 use mathlib.Core.Path.{_≡_}
 use mathlib.Core.Bool.{false, cond}
@@ -13,7 +13,7 @@ use Rattle.queues.specs.Blocks.{firstOf, startOf, lowestOf, risen}
 use Rattle.slot.specs.Slot.{lastTwice}
 use Rattle.rows.specs.Tables.{lineOf, Table}
 
--- the first queue after a slot of block b
+-- the first queue of block b of the queues after a slot
 abbrev pub firstAfter : ℕ → ℕ → ℕ → Queue
 firstAfter M D b = lastTwice (firstOf M (pred D) b)
 
@@ -25,11 +25,11 @@ joined s v j = arrive v (sizeAt s j) (deadlineAt s j)
 abbrev pub liftOf : ℕ → ℕ → ℕ → ℕ
 liftOf D size deadline = cond (leb deadline (pred D)) size 0
 
--- for how many steps a queue stays bearable whose last two totals rise by one in each; 0 where it is not bearable
+-- for how many steps a queue stays bearable when its last two totals rise by one in each step; 0 where it is not bearable
 abbrev pub stepsOf : ℕ → ℕ → Queue → ℕ
 stepsOf M D w = cond (bearable M w) (suc (min (pred D * M - total w (pred D)) (D * M - total w D))) 0
 
--- for how many steps from v on the queues with each of the first n arrivals do, and no more than there are in a block
+-- for how many steps from v on the queues with each of the first n arrivals stay bearable, and at most as many as the block has
 unfoldable pub stepsTo : ℕ → ℕ → View → Queue → ℕ → ℕ
 stepsTo M D s v zero = suc (pred D * M - total v D)
 stepsTo M D s v (suc j) = min (stepsTo M D s v j) (stepsOf M D (joined s v j))
@@ -49,9 +49,9 @@ abbrev pub EntryTable : ℕ → ℕ → View → List ℕ → Type 0
 EntryTable M D s l =
     Table 32 (s .jobCount) (queueCount M (pred (pred D))) (weightAt s) (λ j. liftOf D (sizeAt s j) (deadlineAt s j)) (entryLine M D s) l
 
--- what the lane of an entry says of a queue v that is k steps from the first one on, where with the arrival the first is w′ and this one v′:
--- as long as w′ stays bearable so is v′, and its number is as far from the lane's place as numbers rise in k steps, less what the entry
--- lifts in each
+-- what the lane of an entry says of a queue that is k steps on from the first one; with the arrival the first is w′ and this one v′. As
+-- long as w′ stays bearable, v′ is bearable, and its number is as far from the lane's place as numbers rise in k steps, less what the entry
+-- lifts in each step
 pub record Lane (M D : ℕ) (w′ v′ : Queue) (lift lowest k : ℕ) : Type 0 where
   pub goes : k < stepsOf M D w′ → T (bearable M v′) × (numberOf M v′ + k * lift ≡ laneOf M w′ + risen (D * M + 1 - lowest) k)
   pub ends : stepsOf M D w′ ≤ k → bearable M v′ ≡ false

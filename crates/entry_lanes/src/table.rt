@@ -1,4 +1,4 @@
-// The table of the lanes, which has no slot in it: the weight of each entry and how much it lifts the last total but one, and a line for
+// The table of the lanes, the same for every slot: the weight of each entry and how much it lifts the last total but one, and a line for
 // each block of queues after a slot. A line has the number of the block's first queue, its last total, for how many steps every arrival
 // leads to a bearable queue, and for each entry the number of the first queue with its arrival.
 use model::Job;
@@ -46,7 +46,7 @@ fn smaller(a: u32, b: u32) -> u32
     b
 }
 
-// For how many steps a queue stays bearable whose last two totals rise by one in each.
+// For how many steps a queue stays bearable when its last two totals rise by one in each step.
 fn steps_of(sizes: Sizes, queue: [u32; 6]) -> u32
     requires { ⌜ Measured sizes ⌝ }
     ensures { λ r. ⌜ r ≡ stepsOf (sizes .largest) (sizes .bound) (queueIn (sizes .bound) queue) ⌝ }
@@ -59,7 +59,7 @@ fn steps_of(sizes: Sizes, queue: [u32; 6]) -> u32
     smaller(before, most - total(queue, sizes.bound)) + 1
 }
 
-// For how many steps from a queue after a slot on every arrival leads to a bearable queue.
+// From a queue after a slot on, for how many steps every arrival leads to a bearable queue.
 fn steps(sheet: Sheet, sizes: Sizes, queue: [u32; 6]) -> u32
     requires { ⌜ Measured sizes × (fieldsRefusal (viewOf sheet) ≡ 0) × Small (queueIn (sizes .bound) queue) ×
         (total (queueIn (sizes .bound) queue) (sizes .bound) ≤ pred (sizes .bound) * sizes .largest) ⌝ }
@@ -88,7 +88,7 @@ fn lane_of(counts: &[u32; 2352], sizes: Sizes, queue: [u32; 6]) -> u32
     number(counts, sizes.largest, sizes.bound, queue) as u32
 }
 
-// The lanes of all entries from a queue after a slot on.
+// The lanes of all entries, from a queue after a slot on.
 fn put_lanes(
     counts: &[u32; 2352],
     sheet: Sheet,
@@ -111,7 +111,7 @@ fn put_lanes(
     }
 }
 
-// The first queue after a slot of a block: the last total stands twice.
+// The first queue of a block of queues after a slot: the last total stands twice.
 fn first_after(counts: &[u32; 2352], sizes: Sizes, block: usize) -> [u32; 6]
     requires { ⌜ HoldsCounts (now counts) × Measured sizes × (block < sizes .blocks) ⌝ }
     ensures { λ r. ⌜ r ≡ placesOf (firstAfter (sizes .largest) (sizes .bound) block) ⌝ }

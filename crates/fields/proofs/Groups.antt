@@ -1,4 +1,4 @@
--- One number of a sheet's bytes, group by group (`numberIn`): what its first byte, or the want of one, says of it.
+-- One number of a sheet's bytes, group by group (`numberIn`): what its first byte, or the lack of one, says of it.
 use Prim.Native.Nat.{ℕ, zero, suc, _+_, _*_, _-_, _^_, _≤_, _<_}
 use mathlib.Core.Path.{_≡_, refl, sym, ap, _∙_}
 use mathlib.Core.List.{List}

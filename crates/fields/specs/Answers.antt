@@ -11,7 +11,7 @@ abbrev pub fieldAnswer : Field → Answer ℕ
 fieldAnswer (field.Value x next) = value x next
 fieldAnswer (field.Refused number) = refused number
 
--- the number of an answer: 0 of a value
+-- the number of an answer: 0 for a value
 abbrev pub refusalNumber : {A : Type 0} → Answer A → ℕ
 refusalNumber (value a next) = 0
 refusalNumber (refused number) = number

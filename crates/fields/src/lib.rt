@@ -11,7 +11,7 @@ pub enum Field {
     Refused(u32),
 }
 
-// The number of a refusal; 0 of a value.
+// The number of a refusal; 0 for a value.
 pub fn number_of(answer: Field) -> u32
     ensures { λ r. ⌜ r ≡ refusalNumber (fieldAnswer answer) ⌝ }
 {
@@ -28,8 +28,8 @@ fn wide(byte: u8) -> u32
     byte as u32
 }
 
-// A number of at most `most` bytes at a place. Up to four are allowed here, which still fit 32 bits: that a field has three is
-// `field_at`'s to say.
+// A number of at most `most` bytes at a place. Up to four are allowed here, since they still fit 32 bits; it is `field_at` that allows a
+// field only three.
 fn number_in(most: u32, bytes: &[u8], at: usize) -> Field
     requires { ⌜ most ≤ 4 ⌝ }
     ensures { λ r. ⌜ (fieldAnswer r ≡ numberIn most (now (bytes .entry)) at) × Short most (fieldAnswer r) ⌝ }

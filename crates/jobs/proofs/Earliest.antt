@@ -1,6 +1,6 @@
--- Earliest deadline first takes, of the work due within each u, all of it or the s units, whichever is less: so it leaves the totals less s,
--- not below 0; it is a service of at most s units, and of earliest deadline first; and no service of at most s units leaves less due within
--- any u.
+-- Earliest deadline first takes, of the work due within each u, all of it or the s units, whichever is less: so it leaves each total less
+-- by s, not below 0; it is a service of at most s units, and of earliest deadline first; and no service of at most s units leaves less due
+-- within any u.
 use Prim.Native.Nat.{ℕ, zero, suc, _+_, _-_, min, max, _≤_, _<_}
 use mathlib.Core.Path.{_≡_, refl, ap, _∙_}
 use mathlib.Core.Bool.{Bool, true, false, cond}

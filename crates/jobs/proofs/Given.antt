@@ -1,5 +1,5 @@
--- Services miss no deadline, as a pool that moves tells it, exactly where, with no pool that moves, they take at most the speeds and give no
--- job more than its work, and every job that is due within the run has been given all its work by its deadline.
+-- Services miss no deadline, as the pool after each slot tells it, exactly where, said without a pool, they take at most the speeds and
+-- give no job more than its work, and every job that is due within the run has been given all its work by its deadline.
 use Prim.Native.Nat.{ℕ, zero, suc, _+_, _-_, _≤_, _<_, zero-le}
 use mathlib.Core.Path.{_≡_, refl, sym, ap, _∙_, subst}
 use mathlib.Core.List.{List, [], _∷_}

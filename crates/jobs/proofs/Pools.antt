@@ -1,4 +1,5 @@
--- Every queue that never falls, and so every bearable one, is the queue of a pool: of one job for each position, of what the total rises by.
+-- Every queue that never falls, and so every bearable one, is the queue of a pool, with one job for each position: its work is what the
+-- total rises by there.
 use Prim.Native.Nat.{ℕ, zero, suc, _+_, _-_, _≤_, _<_}
 use mathlib.Core.Path.{_≡_, refl, _∙_}
 use mathlib.Core.List.{List, [], _∷_}

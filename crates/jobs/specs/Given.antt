@@ -1,5 +1,6 @@
--- Services along a run, and "misses no deadline", once more with no pool that moves: a job keeps its place, the jobs that wait at the start
--- first and then each one that comes, and what it is given is added up. By its deadline that is all its work.
+-- Services along a run, and "misses no deadline", once more, but without a pool that changes from slot to slot: every job keeps its place,
+-- first those that wait at the start and then each one that comes, and what it is given is added up. By its deadline that must be all its
+-- work.
 use Prim.Native.Nat.{ℕ, zero, suc, _+_, _≤_, _<_}
 use mathlib.Core.Path.{_≡_}
 use mathlib.Core.List.{List, [], _∷_}

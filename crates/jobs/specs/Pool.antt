@@ -1,5 +1,5 @@
 -- Jobs one by one: what waits, each job with its own work and its own deadline; how much of it must be done within u slots; when a job is
--- late. Of all this document 01's queue keeps the totals alone.
+-- late. Of all this, document 01's queue keeps the totals alone.
 use Prim.Native.Nat.{ℕ, _+_, _-_, _≤_, _<_}
 use mathlib.Core.Path.{_≡_}
 use mathlib.Core.Bool.{Bool, true, cond}
@@ -30,7 +30,7 @@ workWhere test (j ∷ p) = cond (test (j .slots)) (j .work) 0 + workWhere test p
 abbrev pub dueWithin : Pool → ℕ → ℕ
 dueWithin p u = workWhere (λ d. leb d u) p
 
--- within no u is more due of q than of p
+-- within u slots no more of q is due than of p, whatever u
 abbrev pub NoMoreDue : Pool → Pool → Type 0
 NoMoreDue q p = (u : ℕ) → dueWithin q u ≤ dueWithin p u
 

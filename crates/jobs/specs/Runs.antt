@@ -33,7 +33,7 @@ poolAfter p (x ∷ run) [] = p
 poolAfter p (x ∷ run) (t ∷ services) = poolAfter (nextPool p t x) run services
 
 -- the services, one for each slot and each of at most the slot's speed, miss no deadline: no job is late at the start, nor after any slot,
--- the last one too
+-- the last one included
 abbrev pub MissesNone : Pool → List Slot → List Service → Type 0
 MissesNone p [] [] = NoneLate p
 MissesNone p [] (t ∷ services) = ⊥
@@ -58,8 +58,8 @@ abbrev pub Enough : Queue → List Slot → Type 0
 Enough w [] = Unit {0}
 Enough w (x ∷ run) = (total w 1 ≤ x .speed) × Enough (oneSlot w (x .speed) (x .size) (x .deadline)) run
 
--- along a run from the pool p, "each speed is at least w(1)" of its totals, some order of service misses no deadline, and earliest deadline
--- first misses none: one and the same
+-- these come to the same along a run from the pool p: "each speed is at least w(1)" of its totals; some order of service misses no
+-- deadline; earliest deadline first misses none
 pub record TotalsTell (D : ℕ) (p : Pool) (run : List Slot) : Type 0 where
   pub some-order : Enough (queueOfPool D p) run ↔ SomeOrder p run
   pub earliest-first : Enough (queueOfPool D p) run ↔ EarliestFirst p run

@@ -35,7 +35,7 @@ spend (j ∷ p) (x ∷ t) = record { work = j .work - x; slots = j .slots } ∷ 
 
 -- "This is earliest deadline first"
 
--- the job at place i comes before the one at place j: it is due sooner or, where both are due alike, is the older
+-- the job at place i comes before the one at place j: it is due sooner or, where both are due at the same time, is the older
 abbrev pub Sooner : Pool → ℕ → ℕ → Type 0
 Sooner p i j = ((jobAt p i) .slots < (jobAt p j) .slots) ⊎ (((jobAt p i) .slots ≡ (jobAt p j) .slots) × (i < j))
 

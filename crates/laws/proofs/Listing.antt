@@ -1,5 +1,5 @@
--- Laws of the listing (the model's Listing.antt). What `decimal` writes is the number: read as digits it says it, and its first digit is 0 only
--- where the number is. And what the call's number is.
+-- Laws of the listing (the model's Listing.antt). What `decimal` writes is the number: its digits say the number, and the first of them is
+-- 0 only where the number is 0. And what the call's number is.
 use Prim.Native.Nat.{ℕ, zero, suc, _+_, _*_, _-_, _^_, _/_, _%_, _≤_, _<_}
 use mathlib.Core.Path.{_≡_, refl, sym, _∙_}
 use mathlib.Core.Bool.{Bool, true, false, _&&_}

@@ -1,5 +1,5 @@
--- Laws of readers (the model's Reading.antt): one read after another, the tests between them, that no refusal's number is 0, and that the entries
--- that are read are those whose fields stand in the bytes and are right.
+-- Laws of readers (the model's Reading.antt): one read after another, the tests between them, that no refusal's number is 0, and that the
+-- entries that are read are those whose fields stand in the bytes and are right.
 use Prim.Native.Nat.{ℕ, zero, suc, pred, _+_, _*_, _-_, _<_, suc-le-suc}
 use mathlib.Core.Path.{_≡_, refl, sym, ap, _∙_, subst₂}
 use mathlib.Core.Bool.{Bool, true, false, cond}

@@ -1,5 +1,5 @@
--- The recursion of process (process/specs/Recursion.antt) at a sheet's process: what each step of it says of queues, speeds and entries, and
--- a bound of its values.
+-- The recursion of process (process/specs/Recursion.antt) at a sheet's process: what each step of it says of queues, speeds and entries,
+-- and a bound on its values.
 use Prim.Native.Nat.{ℕ, suc, _*_, _^_, _≤_, _<_}
 use mathlib.Core.Path.{_≡_, refl, ap, _∙_, subst}
 use mathlib.Core.Option.{Option, none, some}

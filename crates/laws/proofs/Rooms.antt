@@ -1,5 +1,5 @@
--- What the row call and the planner refuse (`rowRefusal` and `planRefusal` of the model's Plan.antt), by the sheet's number and the rooms that are
--- lent, and which part of a plan a slot's row is.
+-- What the row call and the planner refuse (`rowRefusal` and `planRefusal` of the model's Plan.antt), by the sheet's number and the rooms
+-- that are lent, and which part of a plan a slot's row is.
 use Prim.Native.Nat.{ℕ, _+_, _-_, _≤_, _<_}
 use mathlib.Core.Path.{_≡_, refl, sym, ap, _∙_}
 use mathlib.Core.Bool.{Bool, false, cond, _&&_}

@@ -1,4 +1,4 @@
--- Reading undoes writing, and writing undoes reading (the model's Reading.antt, the model's Bytes.antt): an accepted sheet's bytes are read as that
+-- Reading undoes writing, and writing undoes reading (the model's Reading.antt and Bytes.antt): an accepted sheet's bytes are read as that
 -- sheet, to their end; and bytes that are read as a sheet are that sheet's bytes, and it is an accepted one. Both go by the sheet's fields.
 use Prim.Native.Nat.{ℕ, zero, suc, _+_, _^_, _≤_, _<_}
 use mathlib.Core.Path.{_≡_, refl, sym, ap, _∙_, subst}

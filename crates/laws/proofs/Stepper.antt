@@ -1,5 +1,5 @@
--- Laws of the stepper's definitions (the model's Stepper.antt): what each call answers by its number, and its number by the tests that pass and
--- the one that fails. The stepper's proofs, and those of stepping, cite these, and not the definitions.
+-- Laws of the stepper's definitions (the model's Stepper.antt): what each call answers by its number, and its number by the tests that pass
+-- and the one that fails. The stepper's proofs, and those of stepping, cite these, and not the definitions.
 use Prim.Native.Nat.{ℕ, suc, _+_, _*_, _≤_, _<_}
 use mathlib.Core.Path.{_≡_, refl, sym, ap, _∙_}
 use mathlib.Core.Bool.{Bool, true, false, cond, not, _&&_}

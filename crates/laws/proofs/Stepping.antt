@@ -1,6 +1,6 @@
--- Stepping with a right plan is never refused (the model's Stepper.antt): from a queue that has a value at its slot, speed and each advance by an
--- entry of the sheet answer 0, and the next queue has a value again; at the horizon the answer is 14, and what was
--- spent is what a least good way spends along the same entries. Callers' proofs cite these laws, and not the stepper's definitions.
+-- Stepping with a right plan is never refused (the model's Stepper.antt): from a queue that has a value at its slot, speed and each advance
+-- by an entry of the sheet answer 0, and the next queue has a value again; at the horizon the answer is 14, and what was spent is what a
+-- least good way spends along the same entries. Callers' proofs cite these laws, and not the stepper's definitions.
 use Prim.Native.Nat.{ℕ, suc, _+_, _*_, _-_, _≤_, _<_}
 use mathlib.Core.Path.{_≡_, sym, ap, _∙_, subst}
 use mathlib.Core.Bool.{true, false}

@@ -1,2 +1,2 @@
 // Laws of the definitions of `model` that callers use and no case needs: of reading and writing, of the recursion, of refusals and of the
-// stepper. A crate of their own, so that a wrong definition is tried without them; this crate has no code.
+// stepper. They are a crate of their own, so that a wrong definition in `model` is tried without proving them. This crate has no code.

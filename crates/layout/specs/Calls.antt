@@ -1,4 +1,4 @@
--- What `row` promises: that it answers the part of the plan that the model's `row` is, for refusals too.
+-- What `row` promises: that it answers the part of the plan that the model's `row` gives, for refusals too.
 use Prim.Native.Nat.{ℕ}
 use mathlib.Core.Path.{_≡_}
 use mathlib.Core.List.{List}

@@ -1,4 +1,4 @@
--- Where plan bytes and values stand, as the code works it out: by how many queues there are.
+-- Where plan bytes and values stand, as the code works it out: from how many queues there are.
 use Prim.Native.Nat.{ℕ, _+_, _*_, _≤_}
 use mathlib.Core.List.{List}
 use lib.ListN.{length, getD}

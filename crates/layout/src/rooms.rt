@@ -1,4 +1,4 @@
-// Where a slot and a queue stand, and the test that every call makes first that is lent a plan: 4 to 10, then 11.
+// Where a slot and a queue stand, and the test that every call that is lent a plan makes first: 4 to 10, then 11.
 use limits::queues_of;
 use model::Sheet;
 use sheets::sheet_refusal;

@@ -1,4 +1,4 @@
--- How a product is held to a limit without being worked out where it would pass it: number 9.
+-- How a product is compared with a limit without being worked out where it would exceed it: number 9.
 use Prim.Native.Nat.{ℕ, _+_, _*_, _/_, _^_, _≤_, _<_}
 use mathlib.Core.Path.{_≡_, sym, ap, _∙_}
 use mathlib.Core.Bool.{true, false}

@@ -1,5 +1,5 @@
 // What a whole sheet's numbers come to, and the two limits over them: 9, that a bound on every value fits, and 10, that the queues are not
-// too many. All of it is of a sheet whose fields are in range (4 to 8).
+// too many. All of it is for a sheet whose fields are in range (4 to 8).
 //
 // A sheet is handed on by value: nothing here changes it. Places past the counts are never looked at.
 use model::Sheet;
@@ -11,7 +11,7 @@ ghost use Rattle.model.specs.View.{viewOf, W, M, greatestEnergy, G};
 ghost use Rattle.model.specs.Refusal.{fieldsRefusal, limitsRefusal, N, valueLimit};
 ghost use Rattle.counts.specs.Counts.{HoldsCounts};
 
-// What number 9 holds T times G times W to the power T to, which no value passes: 2^63 - 1.
+// The limit of number 9, 2^63 - 1: T times G times W to the power T, which no value exceeds, must be within it.
 const VALUE_LIMIT: u64 = 9223372036854775807;
 
 // The larger of two numbers.
@@ -76,7 +76,8 @@ pub fn weights(sheet: Sheet) -> u32
 }
 
 // Whether a number, multiplied so many times by another, stays within the limit. It is multiplied only where the product is known to
-// stay within the limit, so that none wraps; the first that would not decides, since the other number is at least 1.
+// stay within the limit, so that none wraps. The first product that would not stay within it decides: the other number is at least 1, so
+// later products are no smaller.
 fn product_fits(first: u64, by: u64, times: u32, limit: u64) -> bool
     requires { ⌜ 1 ≤ by ⌝ }
     ensures { λ r. ⌜ r ≡ leb (first * by ^ times) limit ⌝ }

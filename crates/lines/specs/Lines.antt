@@ -17,7 +17,7 @@ lineAt plan queues slot = lineOf slot (byteIn queues plan slot) queues
 abbrev pub linesTo : List ℕ → (queues slots : ℕ) → List ℕ
 linesTo plan queues slots = inTurn (lineAt plan queues) slots
 
--- what the parts ask for: as many slots and queues as an accepted sheet has, and a plan with all its rows
+-- what the parts ask for: no more slots and queues than an accepted sheet has, and a plan with all its rows
 pub record HasRows (plan : List ℕ) (queues slots : ℕ) : Type 0 where
   pub few-queues : queues ≤ 65535
   pub few-slots : slots ≤ 200

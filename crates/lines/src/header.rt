@@ -34,7 +34,7 @@ pub fn scale_of(sheet: Sheet) -> u64
     scale
 }
 
-// How many bytes the header has: 22 beside the three numbers, each of which has at most 20 digits.
+// How many bytes the header has: 22 besides the three numbers, each of which has at most 20 digits.
 pub fn header_length(head: Header) -> usize
     ensures { λ r. ⌜ (r ≡ length (header (head .queues) (head .scale) (head .least))) × (r ≤ 82) ⌝ }
 {

@@ -1,4 +1,4 @@
-// The parts of a listing, into lent bytes: the header (header), and a line for each slot (lines). Every function here is internal: its
+// The parts of a listing, put into lent bytes: the header (header), and a line for each slot (lines). Every function here is internal: its
 // callers have tested the sheet and the lengths of what is lent.
 mod header;
 mod lines;

@@ -11,7 +11,7 @@ ghost use Rattle.buffers.specs.Laid.{Laid};
 ghost use Rattle.layout.specs.Places.{byteIn, HasRow};
 ghost use Rattle.lines.specs.Lines.{byteListed, lineAt, linesTo, HasRows};
 
-// How many bytes a plan byte takes, with the space before it: at most 1 and the 20 digits that a number can have.
+// How many bytes a plan byte takes, with the space before it: at most 21, since a number has at most 20 digits.
 fn byte_length(byte: u8) -> usize
     ensures { λ r. ⌜ (r ≡ length (byteListed byte)) × (r ≤ 21) ⌝ }
 {
@@ -32,8 +32,8 @@ fn bytes_length(plan: &[u8], queues: usize, slot: u32) -> usize
     all
 }
 
-// How many bytes the line of a slot takes: a colon and a line feed beside the slot and the plan bytes. So it takes at most 22 and 21 for
-// each of 65,535 queues.
+// How many bytes the line of a slot takes: the slot, the plan bytes, a colon and a line feed. That is at most 22, and 21 more for each of
+// 65,535 queues.
 fn line_length(plan: &[u8], queues: usize, slot: u32) -> usize
     requires { ⌜ HasRow (now plan) queues slot ⌝ }
     ensures { λ r. ⌜ (r ≡ length (lineAt (now (plan .entry)) queues slot)) × (r ≤ 1376257) ⌝ }

@@ -1,5 +1,5 @@
--- The length that a listing reports is one of the lent buffer: a caller may take that part of it. And how long a listing is at most: a
--- caller may lend a buffer that is never too short.
+-- The length that a listing reports is within the lent buffer, so that a caller may take that part of it. And how long a listing is at
+-- most, so that a caller may lend a buffer that is never too short.
 use Prim.Native.Nat.{ℕ, zero, suc, _+_, _*_, _^_, _≤_, _<_}
 use mathlib.Core.Path.{_≡_, refl}
 use mathlib.Core.Bool.{_&&_}

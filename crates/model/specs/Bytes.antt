@@ -11,7 +11,7 @@ use Rattle.model.specs.Tests.{Lines, line, _⨾_, firstOf, inTurn}
 use Rattle.model.specs.declared.Job.{Job}
 use Rattle.model.specs.declared.Speed.{Speed}
 
--- the checker sees a slice of bytes as a list of numbers; that each is below 256 is what the machine gives
+-- the checker sees a slice of bytes as a list of numbers; that each is below 256 is ensured by the machine
 abbrev pub AreBytes : List ℕ → Type 0
 AreBytes l = (i : ℕ) → getD l i 0 < 256
 
@@ -69,7 +69,8 @@ pub record Written : Type 0 where
   pub written : ℕ
   pub buffer : List ℕ
 
--- of its number and its bytes: they, and then what stood there; "A refused write .. touches no lent place and reports zero for length"
+-- from its number and its bytes: the bytes, and then what stood behind them; "A refused write .. touches no lent place and reports zero for
+-- length"
 abbrev pub written : ℕ → List ℕ → List ℕ → Written
 written number bytes buffer =
     cond (eqb number 0)
@@ -82,6 +83,6 @@ pub record Wrote (w : Written) (number length : ℕ) (after : List ℕ) : Type 0
   pub written-is : length ≡ w .written
   pub buffer-is : after ≡ w .buffer
 
--- the writer's: the sheet's bytes
+-- the writer: it writes the sheet's bytes
 unfoldable pub write : View → List ℕ → Written
 write s buffer = written (writeRefusal s (length buffer)) (sheetBytes s) buffer

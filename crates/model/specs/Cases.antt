@@ -1,5 +1,5 @@
--- The cases of document 01 that are marked P, and more that tell apart what is easy to get wrong. `Holds` gives each kind of case its
--- meaning in the definitions; that all of them hold is one theorem, proofs/Cases.antt.
+-- The cases of document 01 that are marked P, and more cases for what is easy to get wrong. `Holds` gives each kind of case its meaning in
+-- the definitions; that all of them hold is one theorem, proofs/Cases.antt.
 use Prim.Native.Nat.{ℕ, _+_, _<_}
 use mathlib.Core.Path.{_≡_}
 use mathlib.Core.Bool.{Bool, true, false}
@@ -140,7 +140,7 @@ upto6 = upto5 ++ (at 6 0 ∷ [])
 abbrev pub none64 : ℕ
 none64 = 18446744073709551615
 
--- what `plan` leaves and answers of the two sheets; the theorems over its contract are plan-of-A and plan-of-hopeless of demands
+-- what `plan` leaves and answers for the two sheets; the theorems over its contract are plan-of-A and plan-of-hopeless of demands
 
 -- 01's values of both slots, the plan bytes of its listing, and the header's numbers
 pub record IsPlanOfA (values bytes : List ℕ) (answer : PlanAnswer) : Type 0 where
@@ -198,7 +198,7 @@ casesP =
     (0 ∷ 0 ∷ 1 ∷ 3 ∷ 3 ∷ 3 ∷ []) ∷
     []))
 
--- sheets of the cases that tell apart what is easy to get wrong
+-- sheets of the cases for what is easy to get wrong
 
 abbrev pub ofA : List Job → View
 ofA jobs = viewWith 2 (at 0 0 ∷ at 1 1 ∷ at 2 4 ∷ []) 2 jobs
@@ -263,7 +263,7 @@ casesOfPlans =
     tests (admissible A (0 ∷ 4 ∷ []) 2) true ∷
     tests (admissible A (0 ∷ 0 ∷ []) 3) false ∷
     tests (admissible A (1 ∷ 1 ∷ []) 0) false ∷
-    -- admissible is not good: both speeds are, and only 2 begins a good way, since 0 may lead to (1,4), which has none
+    -- admissible is not good: both speeds are admissible, but only 2 begins a good way, since 0 may lead to (1,4), which has none
     tests (admissible coarse (0 ∷ 1 ∷ []) 0) true ∷
     tests (admissible coarse (0 ∷ 1 ∷ []) 2) true ∷
     decides coarse 1 (1 ∷ 4 ∷ []) none 255 ∷
@@ -343,7 +343,7 @@ casesOfRefusals =
     -- T 16, W 8: 16 times 2,048 times 8^16 is 2^63, which is one too many
     refuses (viewWith 1 (at 0 0 ∷ at 1 2047 ∷ []) 16 (job 8 0 1 ∷ [])) 0 ∷
     refuses (viewWith 1 (at 0 0 ∷ at 1 2048 ∷ []) 16 (job 8 0 1 ∷ [])) 9 ∷
-    -- 9 is told before 10, and 8 before 9
+    -- 9 comes before 10, and 8 before 9
     refuses (viewWith 5 upto6 200 (job 255 0 1 ∷ [])) 9 ∷
     refuses (viewWith 5 upto6 200 (job 255 0 6 ∷ [])) 8 ∷
     []
@@ -387,7 +387,7 @@ casesOfBytes =
     reads (sheetBytes (doubling 1 58)) 9 blank ∷
     reads (sheetBytes (doubling 1 58) ++ (0x00 ∷ [])) 3 blank ∷
     reads (sheetBytes (idle 5 upto6 1)) 10 blank ∷
-    -- places past the counts are no part of the sheet, and it is written alike
+    -- places past the counts are no part of the sheet, and it is written the same
     views (memory 7 A) A ∷
     lists (sheetBytes (viewOf (memory 7 A))) bytesA ∷
     -- eleven: a buffer of fifteen; places past the length stay
@@ -430,7 +430,7 @@ casesOfSteps =
     -- a queue that has no plan starts, and is then refused a speed
     steps (start hopeless (state (1 ∷ []) 0 0)) 0 (state (1 ∷ []) 0 0) ∷
     tells (speed hopeless (255 ∷ 255 ∷ []) (state (1 ∷ []) 0 0)) 16 0 ∷
-    -- a damaged plan: 16 is no speed of the sheet or one below w(1), and not an inadmissible one, which 17 stops
+    -- a damaged plan: 16 is for a byte that is no speed of the sheet or is below w(1), not for an inadmissible speed, which 17 stops
     tells (speed A (set planA 4 0) (state (0 ∷ 4 ∷ []) 0 0)) 0 0 ∷
     steps (advance A (set planA 4 0) (state (0 ∷ 4 ∷ []) 0 0) 0 1) 17 (state (0 ∷ 4 ∷ []) 0 0) ∷
     steps (advance A (set planA 4 0) (state (0 ∷ 4 ∷ []) 0 0) 1 1) 15 (state (0 ∷ 4 ∷ []) 0 0) ∷

@@ -22,7 +22,7 @@ text (c ·∷ s) = characterCode c ∷ text s
 abbrev pub digit : ℕ → ℕ
 digit d = 48 + d
 
--- the number that digits say, the highest first, where `so` was said before them
+-- the number that digits say, the highest first, where the digits before them said `so`
 abbrev pub said : ℕ → List ℕ → ℕ
 said so [] = so
 said so (c ∷ l) = said (10 * so + (c - digit 0)) l
@@ -32,7 +32,7 @@ unfoldable pub digitsIn : ℕ → ℕ → List ℕ
 digitsIn zero x = []
 digitsIn (suc n) x = cond (ltb x 10) (digit x ∷ []) (digitsIn n (x / 10) ++ digit (x % 10) ∷ [])
 
--- in at most 20 digits: it is so written whenever it is below 10^20, as every number of 64 bits is
+-- in at most 20 digits: enough for every number below 10^20, and so for every number of 64 bits
 abbrev pub decimal : ℕ → List ℕ
 decimal x = digitsIn 20 x
 

@@ -1,5 +1,5 @@
 -- Document 01, "Energy and plans": the process of a sheet, what the value and the plan's speed of a slot and queue are, and what the
--- planner and the row call answer. All of it is said of ways (process/specs/Ways.antt); no induction is mentioned.
+-- planner and the row call answer. All of it is said in terms of ways (process/specs/Ways.antt); no induction is mentioned.
 use Prim.Native.Nat.{ℕ, zero, suc, _+_, _*_, _-_, _≤_, _<_}
 use mathlib.Core.Path.{_≡_}
 use mathlib.Core.Bool.{Bool, cond, _&&_}
@@ -20,8 +20,8 @@ nextQueue s w speed i = oneSlot w speed (sizeAt s i) (deadlineAt s i)
 
 -- states are queues, actions are the sheet's speeds, events are the places of its entries. "In each slot exactly one entry arrives, with
 -- chance weight/W": a slot has one event, and the entry's weight is its share of W. "Two entries may be equal; both count": events are
--- places, so that equal entries are two events. A way may be in bearable queues alone; "each
--- speed is at least w(1)"; "After slot T-1 remaining work costs nothing"
+-- places, so that equal entries are two events. A way may reach only bearable queues; "each speed is at least w(1)"; "After slot T-1
+-- remaining work costs nothing"
 unfoldable pub processOf : View → Process Queue
 processOf s =
     record {
@@ -64,7 +64,7 @@ abbrev pub IsPlanByte : View → ℕ → Queue → Option ℕ → ℕ → Type 0
 IsPlanByte s t w none byte = byte ≡ noSpeed
 IsPlanByte s t w (some v) byte = IsFirst (processOf s) (s .jobCount) (weightAt s) (s .horizon - t) w byte
 
--- the same of whatever value they have
+-- the same, whatever value the slot and queue have
 abbrev pub IsPlanByteAt : View → ℕ → Queue → ℕ → Type 0
 IsPlanByteAt s t w byte = (r : Option ℕ) × IsValueAt s t w r × IsPlanByte s t w r byte
 
@@ -84,7 +84,7 @@ placeOfQueue s t w = placeAt s t (numberOf (M s) w)
 abbrev pub byteAt : View → List ℕ → ℕ → ℕ → ℕ
 byteAt s plan t i = getD plan (placeAt s t i) 0
 
--- the same of a bearable queue
+-- the same for a bearable queue
 abbrev pub byteOfQueue : View → List ℕ → ℕ → Queue → ℕ
 byteOfQueue s plan t w = byteAt s plan t (numberOf (M s) w)
 
@@ -100,8 +100,8 @@ valuePlaces width s = valuesNeeded s * width .places
 abbrev pub planNeeded : View → ℕ
 planNeeded s = s .horizon * N s
 
--- "Planner, writer and row: 4 to 10, 11"; "11: a lent buffer shorter than needed", whose lengths are the rooms. 9 tests the limit of the
--- width that the values have
+-- "Planner, writer and row: 4 to 10, 11"; "11: a lent buffer shorter than needed", whose lengths are the rooms. 9 tests against the limit
+-- of the values' width
 unfoldable pub planLines : Width → View → (valuesRoom planRoom : ℕ) → Lines
 planLines width s valuesRoom planRoom =
     sheetLines (width .limit) s ⨾ line 11 (leb (valuePlaces width s) valuesRoom && leb (planNeeded s) planRoom)

@@ -63,8 +63,8 @@ unusedAt D places i = eqb (getD places (D + i) 0) 0
 abbrev pub unusedZero : ℕ → List ℕ → Bool
 unusedZero D places = everywhere (unusedAt D places) (positions - D)
 
--- of 13: what stands in the places is a bearable queue of D positions, unless "the queue falls or is not bearable, an unused position is
--- not zero"
+-- the part of 13 about the queue: what stands in the places is a bearable queue of D positions, unless "the queue falls or is not bearable,
+-- an unused position is not zero"
 unfoldable pub bearableIn : ℕ → ℕ → List ℕ → Bool
 bearableIn M D places = bearable M (queueIn D places) && unusedZero D places
 

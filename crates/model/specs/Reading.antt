@@ -20,7 +20,7 @@ pub data Answer (A : Type 0) : Type 0 where
 abbrev pub Reader : Type 0 → Type 0
 Reader A = List ℕ → ℕ → Answer A
 
--- a value goes on, a refusal is the answer
+-- after a value, reading goes on; a refusal is the answer
 abbrev pub onward : {A B : Type 0} → Answer A → (A → ℕ → Answer B) → Answer B
 onward (value a next) more = more a next
 onward (refused number) more = refused number
@@ -46,8 +46,8 @@ abbrev pub refuse : ℕ → Reader (Unit {0})
 refuse zero bytes at = value tt at
 refuse (suc number) bytes at = refused (suc number)
 
--- the lowest group of seven bits and the number that the rest is; "so a last byte of 0 is allowed only when it is the single byte":
--- the rest, itself in shortest form, is 0 exactly where its one byte is 0
+-- the lowest group of seven bits, and the number that the rest makes; "so a last byte of 0 is allowed only when it is the single byte": the
+-- rest, itself in shortest form, is 0 exactly where its one byte is 0
 abbrev pub joined : ℕ → Answer ℕ → Answer ℕ
 joined low (value high next) = cond (eqb high 0) (refused 2) (value (low + 128 * high) next)
 joined low (refused number) = refused number
@@ -119,7 +119,7 @@ readJobTable D = do
 abbrev pub ended : Reader (Unit {0})
 ended bytes at = test (leb (length bytes) at) 3 bytes at
 
--- 9 and 10 of what was read; `queues` is N of a sheet, handed in as in `refusalGiven`
+-- what was read, tested for 9 and 10; `queues` is N of a sheet, handed in as in `refusalGiven`
 unfoldable pub judged : (View → ℕ) → View → Reader View
 judged queues s = do
   refuse (limitsRefusal valueLimit (queues s) s)

@@ -57,7 +57,7 @@ speedField j = 2 + 2 * j
 abbrev pub jobField : ℕ → ℕ → ℕ
 jobField speedCount i = 4 + 2 * speedCount + 3 * i
 
--- what is tested where number k of a sheet is read, before its range: of a sheet in memory nothing
+-- what is tested when number k of a sheet is read, before its range: for a sheet in memory, nothing
 abbrev pub nothingRead : ℕ → Lines
 nothingRead k = nothing
 
@@ -121,8 +121,8 @@ queuesFit queues = leb queues 65535
 unfoldable pub N : View → ℕ
 N s = queueCount (M s) (s .bound)
 
--- 9, of a limit, and 10, of the sheet as a whole. Its N is handed in as `queues`, so that the cases can be computed with 01's recurrence,
--- which is proved equal; `sheetLines` hands in N itself
+-- 9, against a limit, and 10: the tests of the sheet as a whole. Its N is handed in as `queues`, so that the cases can be computed with
+-- 01's recurrence, which is proved equal; `sheetLines` hands in N itself
 unfoldable pub limitLines : (limit queues : ℕ) → View → Lines
 limitLines limit queues s = line 9 (valueFits (s .horizon) limit s) ⨾ line 10 (queuesFit queues)
 
@@ -130,7 +130,7 @@ limitLines limit queues s = line 9 (valueFits (s .horizon) limit s) ⨾ line 10 
 unfoldable pub linesGiven : (limit queues : ℕ) → View → Lines
 linesGiven limit queues s = fieldLines nothingRead s ⨾ limitLines limit queues s
 
--- "A sheet in memory is tested 4 to 10 in that field order by every call": 9 of the limit that the call names
+-- "A sheet in memory is tested 4 to 10 in that field order by every call": 9 against the limit that the call names
 unfoldable pub sheetLines : (limit : ℕ) → View → Lines
 sheetLines limit s = linesGiven limit (N s) s
 
@@ -169,7 +169,7 @@ refusalGiven limit queues s = firstOf (linesGiven limit queues s)
 abbrev pub sheetRefusal : (limit : ℕ) → View → ℕ
 sheetRefusal limit s = firstOf (sheetLines limit s)
 
--- the same as plain facts, which theorems ask for; that an accepted sheet has them is proved (`accepted` in proofs/Refusal.antt)
+-- the same as plain facts, which theorems ask for; that they hold of an accepted sheet is proved (`accepted` in proofs/Refusal.antt)
 
 -- document 01's ranges, of each place that counts: what 4 to 8 test
 pub record Ranged (s : View) : Type 0 where

@@ -29,7 +29,7 @@ queueOf s x = queueIn (s .bound) (x .queue)
 abbrev pub queueRight : View → State → Bool
 queueRight s x = bearableIn (M s) (s .bound) (x .queue)
 
--- 13 whole: "13: the queue falls or is not bearable, an unused position is not zero, the slot is above T, or the energy is above the slot
+-- all of 13: "13: the queue falls or is not bearable, an unused position is not zero, the slot is above T, or the energy is above the slot
 -- number times the greatest energy"
 unfoldable pub stateRight : View → State → Bool
 stateRight s x = queueRight s x && leb (x .slot) (s .horizon) && leb (x .energy) (x .slot * greatestEnergy s)
@@ -99,11 +99,11 @@ moved s x byte size deadline =
       energy = x .energy + energyOf s byte;
     }
 
--- of number 18
+-- the limit of number 18
 abbrev pub energyLimit : ℕ
 energyLimit = 4294967295
 
--- of the next state: "17: the next queue would not be bearable", "18: the new energy total would pass 4,294,967,295"
+-- the tests of the next state: "17: the next queue would not be bearable", "18: the new energy total would pass 4,294,967,295"
 abbrev pub nextLines : View → State → Lines
 nextLines s next = line 17 (bearable (M s) (queueOf s next)) ⨾ line 18 (leb (next .energy) energyLimit)
 

@@ -1,5 +1,5 @@
--- How document 01's tests are put together: the lines of a call, which are its tests in order, each with its number; and the small loops over
--- places 0 to n-1 and lists that all the rules are said with.
+-- How document 01's tests are put together: the lines of a call, which are its tests in order, each with its number; and the small loops,
+-- over places 0 to n-1 and over lists, in which all the rules are written.
 use Prim.Native.Nat.{ℕ, zero, suc, max}
 use mathlib.Core.Bool.{Bool, true, false, cond, _&&_, _||_}
 use mathlib.Core.List.{List, [], _∷_, _++_}

@@ -1,5 +1,5 @@
--- Document 01, "Energy and plans", of lent memory: how a value, a whole number or none, stands in a buffer of places of 64 bits. It is said
--- over a width, which says how many places a value takes; 01's is `narrow`.
+-- Document 01, "Energy and plans", of lent memory: how a value, a whole number or none, stands in a buffer of places of 64 bits. It is
+-- defined for any width, which says how many places a value takes; 01's width is `narrow`.
 use Prim.Native.Nat.{ℕ, zero, suc, _+_, _*_, _-_, _^_}
 use mathlib.Core.Bool.{cond}
 use mathlib.Core.List.{List}
@@ -27,7 +27,7 @@ numberFrom l at (suc n) = getD l at 0 + 2 ^ 64 * numberFrom l (suc at) n
 abbrev pub placed : Width → List ℕ → ℕ → ℕ
 placed width l i = numberFrom l (i * width .places) (width .places)
 
--- what a number says: none where it is the code, else itself
+-- what a number says: none where it is the code of none, else itself
 abbrev pub decode : Width → ℕ → Option ℕ
 decode width x = cond (eqb x (width .noneCode)) none (some x)
 

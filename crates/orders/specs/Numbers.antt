@@ -1,4 +1,4 @@
--- Demand 1: what it means that a call answers n, said once, of any tests in order (`Tells`); and what is tested when a sheet is read. The
+-- Demand 1: what it means that a call answers n, said once for any tests in order (`Tells`); and what is tested when a sheet is read. The
 -- tests of each call, in the order that document 01 gives, are the model's `..Lines`.
 use Prim.Native.Nat.{ℕ, zero, suc, _<_}
 use mathlib.Core.Path.{_≡_}
@@ -72,7 +72,7 @@ placeOfNumber bytes (suc k) = nextOf (field bytes (placeOfNumber bytes k))
 unfoldable pub fieldOf : List ℕ → ℕ → ℕ
 fieldOf bytes k = valueOf 0 (field bytes (placeOfNumber bytes k))
 
--- the speed at place j that these numbers are
+-- the speed at place j that these numbers make
 abbrev pub speedIn : List ℕ → ℕ → Speed
 speedIn bytes j = record { speed = fieldOf bytes (speedField j); energy = fieldOf bytes (suc (speedField j)) }
 

@@ -1,5 +1,5 @@
-// The planning program: reads a sheet from standard input, plans it, and writes the listing, or `refused n`. It is thin: what it reads,
-// plans and lists with is proved, and it only lends the memory.
+// The planning program: reads a sheet from standard input, plans it, and writes the listing, or `refused n`. It is thin: the reader, the
+// planner and the listing are proved, and it only lends them memory.
 use libc::STDIN_FILENO;
 use libc::STDOUT_FILENO;
 use model::Sheet;
@@ -12,7 +12,7 @@ fn print_refused(number: u32) {
 }
 
 // Writes the listing, all at once. It takes at most 66 bytes, five for each slot and four for each plan byte. 8,000 values leave room for
-// fewer than 8,000 of those, so that 40,000 bytes are enough.
+// fewer than 8,000 plan bytes, and there are at most 200 slots, so that 40,000 bytes are enough.
 fn print_listing(sheet: Sheet, least: u64, plan: &[u8]) {
     let mut text = [0u8; 40000];
     let listed = listing::list(sheet, least, plan, &mut text);
@@ -35,7 +35,7 @@ fn print_plan(sheet: Sheet) {
     print_listing(sheet, answer.least, &plan);
 }
 
-// More than 512 bytes are no sheet: the first 512 are judged, and refused.
+// More than 512 bytes are never a sheet: the first 512 are read, and refused.
 fn main() {
     let mut bytes = [0u8; 512];
     let length = io::read_full(STDIN_FILENO, &mut bytes);

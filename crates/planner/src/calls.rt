@@ -32,7 +32,7 @@ fn refused(number: u32) -> PlanAnswer
     }
 }
 
-// What a plan answers that is not refused: 12 where the empty queue has none.
+// What a plan that is not refused answers: 12 where the empty queue has no value.
 fn planned(queues: u32, least: Value) -> PlanAnswer
     ensures { λ r. ⌜ (r .number ≡ number12 (valueOf least)) × (r .queues ≡ queues) × (r .least ≡ Option·getD (valueOf least) 0) ⌝ }
 {

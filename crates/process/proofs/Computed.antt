@@ -1,6 +1,6 @@
 -- A small process worked by hand, and computed: the state is the work that waits, the action is what is done of it, each of two events
--- brings its own number of units, 0 (weight 1) or 1 (weight 2). At most two units may wait. An action costs its square, and work that is
--- left at the end costs a unit each.
+-- brings its own number of units, 0 (weight 1) or 1 (weight 2). At most two units may wait. An action costs its square, and each unit of
+-- work that is left at the end costs 1.
 use Prim.Native.Nat.{ℕ, _+_, _-_, _*_}
 use mathlib.Core.Path.{_≡_, refl}
 use mathlib.Core.List.{[], _∷_}

@@ -1,5 +1,5 @@
--- The laws of sums, and what makes the definition of a way's energy a weighing of all lists of events: each list is counted once, and all
--- the weights together come to W^k.
+-- The laws of sums, and why the definition of a way's energy weighs all lists of events: each list is counted once, and all the weights
+-- together come to W^k.
 use Prim.Native.Nat.{ℕ, zero, suc, _+_, _*_, _^_, _≤_, _<_, zero-le}
 use mathlib.Core.Path.{_≡_, refl, sym, ap, _∙_, fun-ext}
 use mathlib.Core.Bool.{Bool, true, false, _&&_}

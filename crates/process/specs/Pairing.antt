@@ -1,5 +1,5 @@
--- What the comparison theorem speaks of: events of two processes paired one to one, actions in rising order, and one process eased to
--- another.
+-- What the comparison theorem speaks of: events of two processes paired one to one, actions in rising order, and one process that is as
+-- easy as another.
 use Prim.Native.Nat.{ℕ, _≤_, _<_}
 use mathlib.Core.Path.{_≡_}
 use mathlib.Core.List.{List}

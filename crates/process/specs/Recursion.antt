@@ -9,7 +9,7 @@ use lib.ListN.{length, getD}
 use Rattle.process.specs.Sums.{sum}
 use Rattle.process.specs.Ways.{Process, Way}
 
--- numbers with none: none as soon as a part of it is none
+-- numbers or none: the result is none as soon as a part of it is none
 
 abbrev pub plus : Option ℕ → Option ℕ → Option ℕ
 plus none q = none
@@ -29,12 +29,12 @@ abbrev pub only : Bool → Option ℕ → Option ℕ
 only true r = r
 only false r = none
 
--- a number that is at most u, where there is one; what none gives is a parameter
+-- a number, where there is one, is at most u; what none comes to is a parameter
 abbrev pub UptoOr : Type 0 → Option ℕ → ℕ → Type 0
 UptoOr N none u = N
 UptoOr N (some v) u = v ≤ u
 
--- a number that is there, and not none, and at most u
+-- a number, not none, that is at most u
 abbrev pub Upto : Option ℕ → ℕ → Type 0
 Upto = UptoOr ⊥
 
@@ -43,7 +43,7 @@ pub data Choice : Type 0 where
   nothing : Choice
   chosen : ℕ → ℕ → Choice
 
--- when a later action is taken for an earlier one: where its price v is less than u, so that ties go to the first
+-- when a later action is taken in place of an earlier one: where its price v is less than u, so that ties go to the first
 unfoldable pub cheaper : ℕ → ℕ → Bool
 cheaper v u = ltb v u
 

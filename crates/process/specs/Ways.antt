@@ -56,7 +56,7 @@ spent P x σ (i ∷ l) = P .cost x (σ []) + spent P (P .next x (σ []) i) (late
 unfoldable pub energy : {S : Type 0} → Process S → ℕ → (ℕ → ℕ) → ℕ → S → Way → ℕ
 energy P n w k x σ = overLists n k (λ l. weight w l * spent P x σ l)
 
--- the least scaled energy of the ways of which `Q` holds is v
+-- the least scaled energy of the ways for which `Q` holds is v
 pub record IsLeastOf {S : Type 0} (P : Process S) (n : ℕ) (w : ℕ → ℕ) (k : ℕ) (x : S) (Q : Way → Type 0) (v : ℕ) : Type 0 where
   pub way : Way
   pub holds : Q way

@@ -1,1 +1,1 @@
-// The theory of ways, as definitions (specs/) and theorems (proofs/). It has no code.
+// The theory of ways, as definitions (specs/) and theorems (proofs/). This crate has no code.

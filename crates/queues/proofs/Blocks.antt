@@ -1,5 +1,5 @@
 -- Laws of blocks (specs/Blocks.antt): the number of a queue rises with its last total; how far it rises where the last two totals rise
--- together; and that the blocks have all the queues, each at the first one's number and as much further as its last total is higher.
+-- together; and that the blocks have all the queues, each as far after its block's first queue as its last total is above that one's.
 use Prim.Native.Nat.{ℕ, zero, suc, pred, _+_, _-_, _*_, _≤_, _<_, zero-le}
 use mathlib.Core.Path.{_≡_, refl, sym, ap, _∙_, subst}
 use mathlib.Core.List.{[], _∷_, _++_}

@@ -1,6 +1,6 @@
 -- Blocks of queues. A block has the queues of d positions that differ in their last total alone. In dictionary order they follow each other,
 -- and the last total rises by one from each to the next; so do their numbers, which is why a planner needs one number for a block. A
--- block is told by the number of what stands before the last total, a queue of one position fewer.
+-- block's number is the number of what stands before the last total, which is a queue of one position fewer.
 use Prim.Native.Nat.{ℕ, suc, pred, _+_, _-_, _<_}
 use mathlib.Core.Path.{_≡_}
 use mathlib.Core.List.{[]}
@@ -21,7 +21,8 @@ blockOf M d n = numberOf M (queueIn (pred d) (queueWith M d n))
 abbrev pub lastOf : ℕ → ℕ → ℕ → ℕ
 lastOf M d n = total (queueWith M d n) d
 
--- the first queue of block b: the last total of what stands before stands once more. (With no position there is one queue, and one block)
+-- the first queue of block b: what stands before the last total, with its own last total once more. (With no position there is one queue,
+-- and one block)
 abbrev pub firstOf : ℕ → ℕ → ℕ → Queue
 firstOf M d b = queueIn d (lastTwice (queueWith M (pred d) b))
 
@@ -37,12 +38,12 @@ lowestOf M d b = total (queueWith M (pred d) b) (pred d)
 abbrev pub numberIn : ℕ → ℕ → ℕ → ℕ → ℕ
 numberIn M d b x = startOf M d b + (x - lowestOf M d b)
 
--- the queue with number n is one, and in one of the first b blocks
+-- there is a queue with number n, and it is in one of the first b blocks
 pub record InBlocks (M d b n : ℕ) : Type 0 where
   pub within : n < queueCount M d
   pub block-low : blockOf M d n < b
 
--- it is one, in block b, and its last total is below x
+-- there is one, in block b, and its last total is below x
 pub record InBlock (M d b x n : ℕ) : Type 0 where
   pub within : n < queueCount M d
   pub block-is : blockOf M d n ≡ b
@@ -62,6 +63,6 @@ pub record Shifted (d k : ℕ) (v w : Queue) : Type 0 where
   pub before-is : total w d ≡ total v d + k
   pub last-is : total w (suc d) ≡ total v (suc d) + k
 
--- how far a number rises in k steps that rises by r in the first, and in each later step by one less than before
+-- how far a number rises in k steps where it rises by r in the first, and in each later step by one less than before
 unfoldable pub risen : ℕ → ℕ → ℕ
 risen r k = sum (λ i. r - i) k

@@ -20,12 +20,13 @@ pub record Numbered (M D : ℕ) (places : List ℕ) : Type 0 where
   pub is-bearable : T (bearable M (queueIn D places))
 
 -- what comes before w at w(u+1): the counts of those that agree with w up to w(u) and have less there. Their totals there are w(u) to
--- w(u+1) - 1, so that their slacks are as many, from the one above w's own on. That a number is the sum of these is `number-sum`
+-- w(u+1) - 1, so that their slacks there are as many numbers, from one above w's own slack on. That a number is the sum of these is
+-- `number-sum`
 unfoldable pub earlierAt : ℕ → Queue → ℕ → ℕ
 earlierAt M w u =
     sum (λ j. continuationCount M (length w - suc u) (suc (suc u * M - total w (suc u)) + j)) (total w (suc u) - total w u)
 
--- the queue that stands at a place in the list of all that may follow a total with its slack, r positions
+-- the queue at a place in the list of all queues of r positions that may follow a total with its slack
 abbrev pub following : ℕ → ℕ → ℕ → ℕ → ℕ → Queue
 following M r total slack place = getD (continuations M r total slack) place []
 

@@ -13,7 +13,7 @@ ghost use Rattle.model.specs.Queue.{queueIn, placesOf, bearableQueues, queueCou
 ghost use Rattle.counts.specs.Counts.{InTable, HoldsCounts};
 ghost use Rattle.queues.specs.Order.{Ranges, Numbered, earlierAt, Leads, Follows};
 
-// The sum of the counts of n slacks, of which this is the least.
+// The sum of the counts of n consecutive slacks, from this one up.
 fn sum_of_counts(counts: &[u32; 2352], largest: u32, left: usize, slack: u32, n: u32) -> usize
     requires { ⌜ HoldsCounts (now counts) × ((j : ℕ) → j < n → InTable largest left (slack + j)) ⌝ }
     ensures { λ r. ⌜ r ≡ sum (λ j. continuationCount largest left (slack + j)) n ⌝ }
@@ -68,14 +68,14 @@ pub fn number(counts: &[u32; 2352], largest: u32, bound: usize, queue: [u32; 6])
     before
 }
 
-// How far a queue is found: its last total so far, the slack there, and its place in the list of all that may follow.
+// A queue that is being found: its last total so far, the slack there, and its place in the list of all that may follow.
 struct Found {
     total: u32,
     slack: u32,
     place: usize,
 }
 
-// The next total: of those that may come next the first whose queues do not all stand before the place.
+// The next total: the first, of those that may come next, whose queues do not all stand before the place.
 fn next_total(counts: &[u32; 2352], largest: u32, left: usize, found: Found) -> Found
     requires { ⌜ HoldsCounts (now counts) × Leads largest (suc left) (found .total) (found .slack) (found .place) ⌝ }
     ensures { λ r. ⌜ Follows largest left (found .total) (found .slack) (found .place) (r .total) (r .slack) (r .place) ⌝ }

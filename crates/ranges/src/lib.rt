@@ -1,11 +1,11 @@
-// The range of each field of a sheet. The reader tests a field by these as it comes, the tests of a sheet in memory where it stands; and
-// the number of one speed and of one job.
+// The range of each field of a sheet, and the number of one speed and of one job. The reader tests each field by its range as it reads it;
+// the tests of a sheet in memory use the same ranges.
 use model::Job;
 ghost use mathlib.Core.Path.{_≡_};
 ghost use Rattle.model.specs.Tests.{within};
 ghost use Rattle.model.specs.Refusal.{boundRight, speedCountRight, speedRight, energyRight, horizonRight, jobCountRight, weightRight, sizeRight, deadlineRight, refusalOfSpeed, refusalOfJob};
 
-// Whether a number is one of those from the lowest to the highest.
+// Whether a number is from the lowest to the highest, both included.
 fn between(lowest: u32, highest: u32, x: u32) -> bool
     ensures { λ r. ⌜ r ≡ within lowest highest x ⌝ }
 {
@@ -86,7 +86,7 @@ pub fn deadline_right(bound: u32, deadline: u32) -> bool
 }
 
 // The number of one speed with its energy, at a place of the sheet, after the speed before it: 0, 5 or 6. Both tests are made before
-// either is told, so that the branches say nothing but their order.
+// either is answered, so that the branches say only which number comes first.
 pub fn refusal_of_speed(place: u32, before: u32, speed: u32, energy: u32) -> u32
     ensures { λ r. ⌜ r ≡ refusalOfSpeed place before speed energy ⌝ }
 {

@@ -43,7 +43,7 @@ fn refused(number: u32) -> ReadSheet
     ReadSheet { number, sheet }
 }
 
-// 9 and 10 of what was read.
+// What was read, tested for 9 and 10.
 fn judged(sheet: Sheet) -> ReadSheet
     requires { ⌜ fieldsRefusal (viewOf sheet) ≡ 0 ⌝ }
     ensures { λ r. ⌜ (r .number ≡ limitsRefusal valueLimit (N (viewOf sheet)) (viewOf sheet)) × (r .sheet ≡ sheetGiven (r .number) sheet) ⌝ }
@@ -56,7 +56,7 @@ fn judged(sheet: Sheet) -> ReadSheet
     ReadSheet { number: 0, sheet }
 }
 
-// The sheet of what was read, tables and all.
+// The sheet made of what was read.
 fn whole(bound: u32, speed_table: SpeedTable, horizon: u32, job_table: JobTable) -> Sheet
     ensures { λ r. ⌜ r ≡ record { bound = bound; «speed_count» = «speed_table» .count; speeds = «speed_table» .speeds; horizon = horizon; «job_count» = «job_table» .count; jobs = «job_table» .jobs } ⌝ }
 {

@@ -1,4 +1,4 @@
--- The first queue of a block, in its six places: behind what stands before its last total, the last total written once more.
+-- The first queue of a block, in its six places: a queue of one position fewer, and behind it its last total once more.
 use Prim.Native.Nat.{ℕ, zero, suc, pred, _-_, _≤_, _<_}
 use mathlib.Core.Path.{_≡_, refl, sym, ap, _∙_, subst}
 use mathlib.Core.Bool.{Bool, true, false}

@@ -1,4 +1,5 @@
--- Laws of tables (specs/Tables.antt): both columns one place further, and one line more; what is written behind leaves what stands before.
+-- Laws of tables (specs/Tables.antt): one number more in each column, and one line more; what is written behind leaves what stands before
+-- as it is.
 use Prim.Native.Nat.{ℕ, zero, suc, _+_, _*_, _≤_, _<_}
 use mathlib.Core.Path.{_≡_, refl, sym, ap, _∙_, subst}
 use mathlib.Core.List.{List}

@@ -1,6 +1,6 @@
--- A table that a pass reads along the blocks of a row (queues/specs/Blocks.antt). What has no block in it stands in two columns, two
--- numbers for each speed, or for each entry. Behind them stands a line for each block: three numbers of the block, and then one for each
--- speed, or each entry: the place that its lane begins at. A lane is what one speed, or one entry, finds along a block.
+-- A table that a pass reads along the blocks of a row (queues/specs/Blocks.antt). What is the same for every block stands in two columns,
+-- two numbers for each speed, or for each entry. Behind them stands a line for each block: three numbers of the block, and then one for
+-- each speed, or each entry: the place that its lane begins at. A lane is what one speed, or one entry, finds along a block.
 use Prim.Native.Nat.{ℕ, zero, suc, _+_, _*_, _≤_, _<_}
 use mathlib.Core.Path.{_≡_}
 use mathlib.Core.List.{List}

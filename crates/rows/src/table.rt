@@ -13,7 +13,7 @@ ghost use Rattle.slot.specs.Slot.{lastTwice};
 ghost use Rattle.buffers.specs.Fills.{Fills, numberAt};
 ghost use Rattle.rows.specs.Tables.{lineOf, lineAt, Columns};
 
-// The first queue of a block of queues of so many positions: the last total of what stands before it stands once more.
+// The first queue of a block of queues of so many positions: the totals that they share, with the last of these once more.
 pub fn first_queue(counts: &[u32; 2352], largest: u32, positions: usize, block: usize) -> [u32; 6]
     requires { ⌜ HoldsCounts (now counts) × Ranges largest positions × (block < queueCount largest (pred positions)) ⌝ }
     ensures { λ r. ⌜ r ≡ placesOf (lastTwice (queueWith largest (pred positions) block)) ⌝ }
@@ -24,7 +24,7 @@ pub fn first_queue(counts: &[u32; 2352], largest: u32, positions: usize, block: 
     queue
 }
 
-// Where the line of a block begins, behind two columns of so many places, where each line has so many lanes.
+// Where the line of a block begins: behind two columns of so many places, each line having so many lanes.
 pub fn line_at(column: usize, count: u32, block: usize) -> usize
     requires { ⌜ (column ≤ 32) × (count ≤ 32) × (block ≤ 65535) ⌝ }
     ensures { λ r. ⌜ r ≡ lineAt column count block ⌝ }
@@ -32,7 +32,7 @@ pub fn line_at(column: usize, count: u32, block: usize) -> usize
     column + column + block * (count as usize + 3)
 }
 
-// Both columns one place further.
+// Puts the next number of each column.
 pub fn put_pair(table: &mut [u32], column: usize, place: usize, first: u32, second: u32)
     requires { ⌜ (place < column) × (column + column ≤ length (now table)) ⌝ }
     ensures { λ r. ⌜ (length (now (table .exit)) ≡ length (now (table .entry))) × ((f g : ℕ → ℕ) → f place ≡ first → g place ≡ second →
@@ -42,7 +42,7 @@ pub fn put_pair(table: &mut [u32], column: usize, place: usize, first: u32, seco
     table[column + place] = second;
 }
 
-// The three numbers that a line begins with, whatever its lanes.
+// Puts the three numbers that a line begins with, whatever its lanes.
 pub fn put_head(table: &mut [u32], at: usize, number: u32, lowest: u32, third: u32)
     requires { ⌜ at + 3 ≤ length (now table) ⌝ }
     ensures { λ r. ⌜ ((lane : ℕ → ℕ) → Fills 1 numberAt (lineOf number lowest third lane) at 3 (now (table .entry)) (now (table .exit))) ⌝ }

@@ -16,7 +16,8 @@ pub record Sized (s : View) (sizes : Sizes) : Type 0 where
   pub after-is : sizes .after ≡ queueCount (M s) (pred (s .bound))
   pub blocks-is : sizes .blocks ≡ queueCount (M s) (pred (pred (s .bound)))
 
--- of any sheet: M and D in range, a position at least, and so many queues, no more than number 10 allows. It is all that a pass needs
+-- of any sheet: M and D in range, at least one position, and the counts of queues, no more than number 10 allows. It is all that a pass
+-- needs
 pub record Measured (sizes : Sizes) : Type 0 where
   pub ranges : Ranges (sizes .largest) (sizes .bound)
   pub bound-low : 1 ≤ sizes .bound

@@ -10,8 +10,8 @@ ghost use Rattle.counts.specs.Counts.{HoldsCounts};
 ghost use Rattle.sheets.specs.Sizes.{Sized};
 
 // The largest speed M, the greatest energy, the deadline bound D, the number of queues N, and how many queues there are after a slot,
-// before an arrival: those of one position fewer, since the last total then stands twice. As many are the blocks that all queues come in;
-// the queues after a slot come in `blocks` of them.
+// before an arrival: those of one position fewer, since the last total then stands twice. All queues come in as many blocks as that; the
+// queues after a slot come in `blocks` blocks.
 pub struct Sizes {
     pub largest: u32,
     pub energy: u32,

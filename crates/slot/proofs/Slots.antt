@@ -1,6 +1,6 @@
 -- What a slot at a speed of at least w(1) leaves of a queue: its last total stands twice, so that the positions before the last one tell
--- the whole queue and whether it is bearable. And an arrival makes no queue bearable; and the totals of a bearable queue, and of what a
--- slot leaves of it, are small enough to be added to. The planner's and the stepper's steps stand on these laws.
+-- the whole queue and whether it is bearable. An arrival makes no queue bearable that was not. And the totals of a bearable queue, and of
+-- what a slot leaves of it, are small enough to be added to. The planner's and the stepper's steps stand on these laws.
 use Prim.Native.Nat.{ℕ, zero, suc, _*_, _-_, min, _≤_, _<_, zero-le}
 use mathlib.Core.Path.{_≡_, refl, sym, ap, _∙_}
 use mathlib.Core.Bool.{Bool, true, false}

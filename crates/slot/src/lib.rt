@@ -1,5 +1,5 @@
-// One slot of a queue, as the planner and the stepper handle it, in six places of which the first D are used: the queue after the slot, the
-// queue with an arrival, both at once, and whether a queue is bearable.
+// What a slot does to a queue, for the planner and the stepper: the queue after the slot, the queue with an arrival, both at once, and
+// whether a queue is bearable. A queue stands in six places, of which the first D are used.
 //
 // `largest` is the largest speed M, `bound` the deadline bound D. Every function here is internal: its callers have tested the sheet, so
 // that M is from 1 to 8 and D at most 6.
@@ -19,7 +19,7 @@ pub fn total(queue: [u32; 6], u: usize) -> u32
     queue[u - 1]
 }
 
-// The work that is left of some after a slot at this speed, never below nothing.
+// What a slot at this speed leaves of some work, never below 0.
 fn less(work: u32, speed: u32) -> u32
     ensures { λ r. ⌜ r ≡ work - speed ⌝ }
 {

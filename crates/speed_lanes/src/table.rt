@@ -1,6 +1,6 @@
-// The table of the lanes, which has no slot in it: the speeds and their energies, and a line for each block of queues. A line has the number
-// of the block's first queue, its last total, the place of the slowest speed that leads on, and for each speed the number of the queue
-// after a slot at it.
+// The table of the lanes, the same for every slot: the speeds and their energies, and a line for each block of queues. A line has the
+// number of the block's first queue, its last total, the place of the slowest speed that leads on, and for each speed the number of the
+// queue after a slot at that speed.
 use model::Sheet;
 use queues::number;
 use rows::first_queue;
@@ -50,7 +50,7 @@ fn slowest(sheet: Sheet, sizes: Sizes, queue: [u32; 6]) -> u32
     place
 }
 
-// Where the lane of a speed begins from a queue on: the number of the queue after the slot, 0 where the speed does not lead on.
+// Where the lane of a speed begins, from this queue on: the number of the queue after the slot, 0 where the speed does not lead on.
 fn lane_of(counts: &[u32; 2352], sizes: Sizes, queue: [u32; 6], speed: u32) -> u32
     requires { ⌜ HoldsCounts (now counts) × Measured sizes ⌝ }
     ensures { λ r. ⌜ r ≡ laneOf (sizes .largest) (sizes .bound) (queueIn (sizes .bound) queue) speed ⌝ }
@@ -62,7 +62,7 @@ fn lane_of(counts: &[u32; 2352], sizes: Sizes, queue: [u32; 6], speed: u32) -> u
     number(counts, sizes.largest, sizes.bound - 1, left) as u32
 }
 
-// The lanes of all speeds from a queue on.
+// The lanes of all speeds, from this queue on.
 fn put_lanes(
     counts: &[u32; 2352],
     sheet: Sheet,

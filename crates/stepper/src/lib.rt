@@ -3,7 +3,7 @@
 // in the plan is in crates of their own, lookups and layout.
 //
 // Every call takes every input and tests it itself: any sheet, any plan bytes, any state, any arrival. No total of a bearable queue is
-// above 48 and no size on a sheet above 255, so that no count of work wraps; and none goes below nothing.
+// above 48 and no size on a sheet above 255, so that no count of work wraps; and none goes below 0.
 mod state;
 mod step;
 mod tests;

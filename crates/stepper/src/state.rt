@@ -109,7 +109,7 @@ fn zero_state() -> State
     }
 }
 
-// The speed of the slot that begins, behind the tests that both calls make of it: 4 to 10, 11, 13, 14 and 16.
+// The speed of the slot that begins, after the tests that both calls make: 4 to 10, 11, 13, 14 and 16.
 fn speed_of(counts: &[u32; 2352], sheet: Sheet, plan: &[u8], state: State) -> Told
     requires { ⌜ HoldsCounts (now counts) ⌝ }
     ensures { λ r. ⌜ IsTold (speed (viewOf sheet) (now (plan .entry)) (stateOf state)) (r .number) (r .speed) ⌝ }

@@ -16,10 +16,10 @@ ghost use Rattle.sheets.specs.Sizes.{Sized};
 ghost use Rattle.stepper.specs.Calls.{stateOf, IsStepped};
 ghost use Rattle.stepper.specs.Parts.{movedOrRefused};
 
-// The most energy that a state can hold: 18 refuses what would pass it.
+// The most energy that a state can hold: an advance that would exceed it is refused with 18.
 const MOST_ENERGY: u32 = 4294967295;
 
-// The state after a slot at this speed and an arrival: 17 and 18, which hand back the state as it was.
+// The state after a slot at this speed and an arrival; or 17 or 18, with the state as it was.
 pub fn moved(
     sheet: Sheet,
     sizes: Sizes,

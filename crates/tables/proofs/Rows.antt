@@ -1,5 +1,5 @@
--- The tables of speeds and of jobs, entry by entry: the entries read so far, in front of what is read from here, are what is read as a
--- whole. One set of laws for both, over the entries' type, how many places a table has and what stands in those past the count.
+-- The tables of speeds and of jobs, entry by entry: the entries read so far, followed by those that are read from here on, are all that are
+-- read. One set of laws for both, over the entries' type, how many places a table has and what stands in those past the count.
 use Prim.Native.Nat.{ℕ, zero, suc, _+_, _-_, _≤_, _<_}
 use mathlib.Core.Path.{_≡_, refl, sym, ap, _∙_}
 use mathlib.Core.List.{List, [], _∷_, _++_, append-assoc, append-nil}

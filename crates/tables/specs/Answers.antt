@@ -21,7 +21,7 @@ abbrev pub jobAnswer : JobRead → Answer Job
 jobAnswer (job.Value one next) = value one next
 jobAnswer (job.Refused number) = refused number
 
--- an enum cannot hold an array: a table's answer is a struct with the number beside it, which is 0 of a value
+-- an enum cannot hold an array: a table's answer is a struct with the number beside it, which is 0 for a value
 
 abbrev pub tableAnswer : {A : Type 0} → ℕ → ℕ → List A → ℕ → Answer (ℕ × List A)
 tableAnswer zero count places next = value (count, places) next

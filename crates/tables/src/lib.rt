@@ -25,7 +25,7 @@ enum SpeedRead {
     Refused(u32),
 }
 
-// The number of a refusal; 0 of a value.
+// The number of a refusal; 0 for a value.
 fn number_of_speed(answer: SpeedRead) -> u32
     ensures { λ r. ⌜ r ≡ refusalNumber (speedAnswer answer) ⌝ }
 {
@@ -56,7 +56,7 @@ fn speed_at(bytes: &[u8], at: usize, place: u32, before: u32) -> SpeedRead
     SpeedRead::Value(Speed { speed, energy }, at)
 }
 
-// A table of speeds, zero past its count: with the number 0 and the next place, or, refused, with the refusal's number. A struct,
+// A table of speeds, zero past its count, with the number 0 and the next place; or, where it is refused, the refusal's number. A struct,
 // since an enum cannot hold an array.
 pub struct SpeedTable {
     pub number: u32,
@@ -75,7 +75,7 @@ pub fn zero_speeds() -> [Speed; 9]
     }; 9]
 }
 
-// No table: the refusal's number.
+// No table, but the refusal's number.
 fn no_speeds(number: u32) -> SpeedTable
     ensures { λ r. ⌜ r .number ≡ number ⌝ }
 {
@@ -88,7 +88,7 @@ fn no_speeds(number: u32) -> SpeedTable
     }
 }
 
-// So many speeds.
+// Reads so many speeds.
 fn speeds_at(bytes: &[u8], at: usize, count: u32) -> SpeedTable
     requires { ⌜ count ≤ 9 ⌝ }
     ensures { λ r. ⌜ tableAnswer (r .number) (r .count) (r .speeds) (r .next) ≡ inMemoryAs speedPlaces (readSpeeds count 0 0 (now (bytes .entry)) at) ⌝ }
@@ -135,7 +135,7 @@ enum JobRead {
     Refused(u32),
 }
 
-// The number of a refusal; 0 of a value.
+// The number of a refusal; 0 for a value.
 fn number_of_job(answer: JobRead) -> u32
     ensures { λ r. ⌜ r ≡ refusalNumber (jobAnswer answer) ⌝ }
 {
@@ -180,7 +180,7 @@ fn job_at(bytes: &[u8], at: usize, bound: u32) -> JobRead
     )
 }
 
-// A table of jobs, zero past its count: with the number 0 and the next place, or, refused, with the refusal's number. A struct,
+// A table of jobs, zero past its count, with the number 0 and the next place; or, where it is refused, the refusal's number. A struct,
 // since an enum cannot hold an array.
 pub struct JobTable {
     pub number: u32,
@@ -200,7 +200,7 @@ pub fn zero_jobs() -> [Job; 32]
     }; 32]
 }
 
-// No table: the refusal's number.
+// No table, but the refusal's number.
 fn no_jobs(number: u32) -> JobTable
     ensures { λ r. ⌜ r .number ≡ number ⌝ }
 {
@@ -213,7 +213,7 @@ fn no_jobs(number: u32) -> JobTable
     }
 }
 
-// So many jobs of a sheet with this deadline bound.
+// Reads so many jobs of a sheet with this deadline bound.
 fn jobs_at(bytes: &[u8], at: usize, bound: u32, count: u32) -> JobTable
     requires { ⌜ count ≤ 32 ⌝ }
     ensures { λ r. ⌜ tableAnswer (r .number) (r .count) (r .jobs) (r .next) ≡ inMemoryAs jobPlaces (readJobs bound count (now (bytes .entry)) at) ⌝ }

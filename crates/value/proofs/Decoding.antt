@@ -1,5 +1,5 @@
--- Laws of what a number says as a value (`decode` of the model's Width.antt), at any width: when it is none, when one is less than another, and what a sum
--- is.
+-- Laws of what a number says as a value (`decode` of the model's Width.antt), at any width: when it is none, when one is less than another,
+-- and what a sum is.
 use Prim.Native.Nat.{ℕ, _+_, _*_, _≤_, _<_}
 use mathlib.Core.Path.{_≡_, refl, sym, ap, _∙_, subst}
 use mathlib.Core.Bool.{Bool, true, false, cond}

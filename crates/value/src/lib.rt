@@ -1,6 +1,6 @@
 // One value: a whole number or none, in the code and at a place of a lent buffer. The planner works with values through these functions
-// alone, and what they promise is said over a width (model/specs/Width.antt), so that a planner of wider values differs from this one in its
-// `use` lines.
+// alone, and what they promise is said over a width (model/specs/Width.antt), so that a planner of wider values differs from this one only
+// in its `use` lines.
 ghost use mathlib.Core.Path.{_≡_};
 ghost use mathlib.Core.Bool.{false};
 ghost use mathlib.Core.Option.{none, some};
@@ -42,7 +42,7 @@ pub fn is_none(value: Value) -> bool
     value.number == NONE
 }
 
-// The number of a value that is there.
+// The number of a value that is not none.
 pub fn number(value: Value) -> u64
     requires { ⌜ missing (valueOf value) ≡ false ⌝ }
     ensures { λ r. ⌜ valueOf value ≡ some r ⌝ }
@@ -50,8 +50,8 @@ pub fn number(value: Value) -> u64
     value.number
 }
 
-// The first value and so many times another, none where either is. It asks that the sum passes no limit, so that nothing wraps; a
-// product is made only where both are there.
+// The first value plus so many times another; none where either is none. The sum must be within the limit, so that nothing wraps; the
+// product is made only where neither is none.
 pub fn add(first: Value, by: u32, value: Value) -> Value
     requires { ⌜ Fits width (plus (valueOf first) (times by (valueOf value))) ⌝ }
     ensures { λ r. ⌜ valueOf r ≡ plus (valueOf first) (times by (valueOf value)) ⌝ }
@@ -67,14 +67,14 @@ pub fn add(first: Value, by: u32, value: Value) -> Value
     }
 }
 
-// Whether a value is less than another. None is less than no value, and every value that is there is less than none.
+// Whether a value is less than another. None is not less than any value; every number is less than none.
 pub fn less(value: Value, than: Value) -> bool
     ensures { λ r. ⌜ r ≡ lessThan (valueOf value) (valueOf than) ⌝ }
 {
     value.number < than.number
 }
 
-// Whether so many values fit a buffer of so many places.
+// Whether so many values fit into a buffer of so many places.
 pub fn fit(count: usize, room: usize) -> bool
     ensures { λ r. ⌜ r ≡ leb (count * width .places) room ⌝ }
 {

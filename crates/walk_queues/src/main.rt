@@ -1,5 +1,5 @@
-// Walks every list of totals of a few sizes, one more than is bearable at each position too, in dictionary order. It counts those that
-// are bearable, and of these the ones whose number is how many came before and whose number gives the queue back.
+// Walks, for a few sizes, every list of totals up to one more than is bearable at each position, in dictionary order. It counts the
+// bearable ones, and among these the ones whose number is how many bearable ones came before, and gives the queue back.
 ghost use Prim.Native.Nat.{_+_, _≤_, _<_};
 ghost use Rattle.counts.specs.Counts.{HoldsCounts};
 ghost use Rattle.queues.specs.Order.{Ranges, Numbered};

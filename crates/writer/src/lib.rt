@@ -1,5 +1,5 @@
-// The writer: a sheet's bytes into a lent buffer. They are put into an array of its own first, so that a refused write touches nothing. Its
-// call takes any sheet in memory and any buffer. What it refuses, it refuses with a number.
+// The writer: puts a sheet's bytes into a lent buffer. It puts them into an array of its own first, so that a refused write touches
+// nothing. Its call takes any sheet in memory and any buffer. What it refuses, it refuses with a number.
 use buffers::lay;
 use counts::table;
 use model::Job;
@@ -112,8 +112,8 @@ fn put_sheet(buffer: &mut [u8], sheet: Sheet) -> usize
 }
 
 // Writes a sheet. The array has room for 118 numbers of three bytes: D, the count of speeds, T and the count of jobs, two for each of nine
-// speeds and three for each of 32 jobs. (By the ranges of the fields a sheet takes 201 bytes at most; three for every number is less to prove.)
-// Where the lent buffer has room for them, the bytes are then put there as a text is.
+// speeds and three for each of 32 jobs. (By the ranges of the fields a sheet takes 201 bytes at most; three for every number is easier to
+// prove.) Where the lent buffer has room for them, the bytes are then laid there.
 pub fn write(sheet: Sheet, buffer: &mut [u8]) -> Written
     ensures { λ r. ⌜ IsWritten (viewOf sheet) (now (buffer .entry)) (r .number) (r .length) (now (buffer .exit)) ⌝ }
 {

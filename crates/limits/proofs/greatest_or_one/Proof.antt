@@ -1,4 +1,4 @@
--- `greatest_or_one` meets its contract: G is told by whether the greatest energy is 0.
+-- `greatest_or_one` meets its contract: whether the greatest energy is 0 decides what G is.
 use mathlib.Core.Path.{sym, _∙_}
 use borrow.Author.Needs.{needs}
 use Rattle.model.proofs.Refusal.{G-none, G-some}

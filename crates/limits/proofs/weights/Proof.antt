@@ -1,5 +1,5 @@
--- `weights` meets its contract. The loop's invariant: what is added up is the sum of the weights passed. No sum wraps: each weight is at
--- most 255.
+-- `weights` meets its contract. The loop's invariant: the sum so far is that of the weights passed. No sum wraps: each weight is at most
+-- 255.
 use Prim.Native.Nat.{_≤_, _-_}
 use mathlib.Core.Path.{_≡_, refl, sym, ap}
 use native.Mathlib.Omega.{arith}

@@ -1,4 +1,4 @@
--- `is_job` meets its contract: the size is another, or the deadline decides.
+-- `is_job` meets its contract: the size differs, or the deadline decides.
 use mathlib.Core.Path.{_≡_, sym, ap}
 use mathlib.Core.Bool.{Bool, _&&_}
 use borrow.Author.Tests.{eq-eqb, ne-eqb}

@@ -1,4 +1,4 @@
--- `print_listing` is safe: the length that the listing reports is one of the buffer.
+-- `print_listing` is safe: the length that the listing reports is within the buffer.
 use native.Mathlib.Omega.{arith}
 use borrow.Author.Needs.{needs}
 use Prim.Native.Nat.{ℕ}

@@ -1,4 +1,4 @@
--- `print_refused` is safe: the length of the line is one of the buffer.
+-- `print_refused` is safe: the length of the line is within the buffer.
 use mathlib.Core.Path.{sym}
 use native.Mathlib.Omega.{arith}
 use lib.Seq.{length-take-le}

@@ -1,4 +1,4 @@
--- `judged` meets its contract: the sheet is given where neither 9 nor 10 is told.
+-- `judged` meets its contract: the sheet is given where neither 9 nor 10 refuses it.
 use mathlib.Core.Path.{_∙_}
 use borrow.Author.Needs.{needs}
 use Rattle.reader.proofs.Stages.{given-zero}

@@ -1,4 +1,4 @@
--- `bearable_in` meets its contract: the queue is asked first, and where it is bearable the unused places decide.
+-- `bearable_in` meets its contract: the queue is tested first, and where it is bearable the unused places decide.
 use mathlib.Core.Path.{sym, _∙_}
 use mathlib.Core.Bool.{true, false}
 use borrow.Author.Needs.{needs}

@@ -1,4 +1,5 @@
--- `total_with` meets its contract: the total with an arrival is found by where the place lies among the first ones and to the deadline.
+-- `total_with` meets its contract: the total with an arrival is found by where the place lies among the first ones, and whether it is
+-- before the deadline.
 use mathlib.Core.Path.{sym}
 use native.Mathlib.Omega.{arith}
 use borrow.Author.Needs.{needs}

@@ -1,5 +1,5 @@
--- `jobs_at` meets its contract. The loop's invariant: the jobs so far stand in their places, and in front of those that are left they
--- are the jobs that are read. The measure is how many are left.
+-- `jobs_at` meets its contract. The loop's invariant: the jobs so far stand in their places, and followed by those that are left they are
+-- all the jobs that are read. The measure is how many are left.
 use Prim.Native.Nat.{_-_, _≤_}
 use mathlib.Core.Path.{refl}
 use native.Mathlib.Omega.{arith}

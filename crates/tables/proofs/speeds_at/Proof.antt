@@ -1,5 +1,5 @@
--- `speeds_at` meets its contract. The loop's invariant: the speeds so far stand in their places, and in front of those that are left they
--- are the speeds that are read. The measure is how many are left.
+-- `speeds_at` meets its contract. The loop's invariant: the speeds so far stand in their places, and followed by those that are left they
+-- are all the speeds that are read. The measure is how many are left.
 use Prim.Native.Nat.{_-_, _≤_}
 use mathlib.Core.Path.{refl}
 use native.Mathlib.Omega.{arith}

@@ -1,5 +1,5 @@
 -- The proof of the cycle of calls {put_in}. The measure is how many bytes the code may take. It stores the last group, or another group
--- and then, by its call of itself, the others.
+-- and then, by the recursive call, the others.
 use Prim.Native.Nat.{ℕ, _<_}
 use mathlib.Core.Path.{_∙_}
 use native.Mathlib.Omega.{arith}

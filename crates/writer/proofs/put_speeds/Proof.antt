@@ -1,5 +1,5 @@
--- `put_speeds` meets its contract. The loop's invariant: there are at most nine speeds, and those passed are laid. Each has room, since all of them
--- have.
+-- `put_speeds` meets its contract. The loop's invariant: there are at most nine speeds, and those passed are laid. Each has room, since all
+-- of them have.
 use Prim.Native.Nat.{_-_, _≤_}
 use mathlib.Core.Path.{ap, subst}
 use native.Mathlib.Omega.{arith}

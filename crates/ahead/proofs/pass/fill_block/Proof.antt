@@ -1,5 +1,5 @@
--- `fill_block` meets its contract. The loop's invariant: the queues so many steps from the block's first one on are filled, and a lane has
--- risen as far as it does in as many.
+-- `fill_block` meets its contract. The loop's invariant: the queues of the block's first so many steps are filled, and a lane has risen as
+-- far as it does in as many steps.
 use Prim.Native.Nat.{ℕ, suc, pred, _+_, _-_, _*_, _≤_, _<_}
 use mathlib.Core.Path.{_≡_, ap, _∙_, subst}
 use native.Mathlib.Nat.{add-zero, mul-le-mul-right}

@@ -1,5 +1,5 @@
 -- `sum_of` meets its contract. The loop's invariant: the sum so far is that over the entries passed. Once a value is none, so is the sum.
--- That no sum passes the limit is not in it, since no sum over some first entries does.
+-- That no sum passes the limit need not be in it: it is given for the sum over any number of first entries.
 use Prim.Native.Nat.{ℕ, _+_, _-_, _≤_}
 use mathlib.Core.Path.{_≡_, sym, ap, _∙_, subst}
 use mathlib.Core.Option.{Option}

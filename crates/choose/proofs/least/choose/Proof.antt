@@ -1,5 +1,5 @@
--- `choose` meets its contract. The loop's invariant: the least so far is the least over the speeds passed, and those before the first that
--- leads on cost none.
+-- `choose` meets its contract. The loop's invariant: the least so far is the least over the speeds passed, and the cost of those before the
+-- first that leads on is none.
 use Prim.Native.Nat.{ℕ, _+_, _-_, _≤_, _<_}
 use mathlib.Core.Path.{_≡_, ap, _∙_}
 use native.Mathlib.Omega.{arith}

@@ -1,4 +1,4 @@
--- `fill_block` meets its contract. The loop's invariant: the queues of the block below the last total are filled.
+-- `fill_block` meets its contract. The loop's invariant: the queues of the block with a smaller last total are filled.
 use Prim.Native.Nat.{ℕ, suc, _+_, _-_, _*_, _≤_}
 use mathlib.Core.Path.{_≡_, ap, _∙_, subst}
 use native.Mathlib.Omega.{arith}

@@ -1,5 +1,5 @@
--- The proof of the cycle of calls {length_in}. The measure is how many digits the number may have. A single digit, or one more than its
--- tenth has, by the call of itself.
+-- The proof of the cycle of calls {length_in}. The measure is how many digits the number may have. It has a single digit, or one more than
+-- its tenth has, by the recursive call.
 use Prim.Native.Nat.{ℕ, _<_}
 use mathlib.Core.Path.{sym}
 use native.Mathlib.Omega.{arith}

@@ -1,5 +1,5 @@
--- The proof of the cycle of calls {put_in}. The measure is how many digits the number may have. It stores a single digit, or, by its call
--- of itself, those of the number's tenth, and then the last digit behind them.
+-- The proof of the cycle of calls {put_in}. The measure is how many digits the number may have. It stores a single digit or, by the
+-- recursive call, those of the number's tenth, and then the last digit behind them.
 use Prim.Native.Nat.{ℕ, _<_}
 use native.Mathlib.Omega.{arith}
 use borrow.Fn.Kinds.{In}

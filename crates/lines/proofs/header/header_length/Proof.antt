@@ -1,4 +1,4 @@
--- `header_length` meets its contract: the lengths of the three numbers and of what stands about them add up, and so no sum of them wraps.
+-- `header_length` meets its contract: the lengths of the three numbers and of what stands around them add up, and so no sum of them wraps.
 use native.Mathlib.Omega.{arith}
 use borrow.Author.Needs.{needs}
 use Rattle.lines.proofs.Heads.{header-length}

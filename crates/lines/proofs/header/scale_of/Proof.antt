@@ -1,5 +1,5 @@
--- `scale_of` meets its contract. The loop's invariant: the product so far is W to the power of the factors passed. None wraps: number 9's
--- limit holds W to the power T.
+-- `scale_of` meets its contract. The loop's invariant: the product so far is W to the power of the factors passed. None wraps: W to the
+-- power T is within number 9's limit.
 use Prim.Native.Nat.{ℕ, _+_, _*_, _-_, _^_, _≤_}
 use mathlib.Core.Path.{_≡_, sym, ap, _∙_}
 use native.Mathlib.Nat.{pow-zero}

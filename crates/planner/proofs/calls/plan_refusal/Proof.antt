@@ -1,4 +1,4 @@
--- `plan_refusal` meets its contract: the sheet is refused, or the values are too short for T + 1 rows, or the plan for T, or neither.
+-- `plan_refusal` meets its contract: the sheet is refused, or the values are too short for T + 1 rows, or the plan for T, or none of these.
 use Prim.Native.Nat.{ℕ, _*_, _≤_}
 use mathlib.Core.Path.{_≡_, sym, ap, _∙_}
 use native.Mathlib.Omega.{arith}

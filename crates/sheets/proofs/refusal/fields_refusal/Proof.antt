@@ -1,4 +1,5 @@
--- `fields_refusal` meets its contract: each test in turn leaves it to the later ones where it passes, and is the answer where it fails.
+-- `fields_refusal` meets its contract: each test in turn is the answer where it fails, and leaves the answer to the later ones where it
+-- passes.
 use mathlib.Core.Path.{sym, _∙_}
 use borrow.Author.Needs.{needs}
 use Rattle.model.proofs.Tests.{then-passes, then-fails, then-on, then-stops}
