@@ -1,6 +1,6 @@
 -- That the first pass, over the row of the next slot's values, works out what the recursion says is ahead of a queue after a slot. What is
 -- said of buffers is said over any width of a value.
-use Prim.Native.Nat.{ℕ, zero, suc, _<_}
+use Prim.Native.Nat.{ℕ, zero, suc}
 use mathlib.Core.Path.{_≡_, refl, sym, ap, _∙_, subst}
 use mathlib.Core.Bool.{Bool, true, false}
 use mathlib.Core.List.{List}

@@ -1,6 +1,6 @@
 -- What the functions that fill the rows promise each other and the calls, over any width of a value. They compute the recursion of
 -- process/specs/Recursion.antt over the lent values; what the calls promise is in planner/specs/Calls.antt and mentions none of this.
-use Prim.Native.Nat.{ℕ, suc, pred, _+_, _*_, _-_, _^_, _≤_, _<_}
+use Prim.Native.Nat.{ℕ, suc, pred, _+_, _-_, _^_, _≤_, _<_}
 use mathlib.Core.Path.{_≡_}
 use mathlib.Core.List.{List}
 use mathlib.Core.Option.{Option, some}

@@ -5,7 +5,7 @@ use mathlib.Core.Path.{_≡_, refl, sym, ap, _∙_, subst}
 use mathlib.Core.Bool.{Bool, true, false}
 use mathlib.Core.List.{List}
 use mathlib.Core.Logic.{_⊎_, inl, inr, ⊎-elim}
-use native.Mathlib.Nat.{le-trans, mul-le-mul-right, add-zero, eq-or-lt-of-le, le-of-suc-le-suc, not-suc-le-zero, suc-mul}
+use native.Mathlib.Nat.{le-trans, mul-le-mul-right, add-zero, eq-or-lt-of-le, not-suc-le-zero, suc-mul}
 use native.Mathlib.Omega.{arith}
 use borrow.Author.Tests.{ltb-true, ltb-false}
 use lib.Dec.{ltb}

@@ -8,12 +8,11 @@ use mathlib.Core.List.{List}
 use mathlib.Core.Option.{Option, some}
 use native.Mathlib.Nat.{add-zero, le-refl, le-of-lt}
 use native.Mathlib.Omega.{arith}
-use lib.Dec.{T}
 use lib.ListN.{length, getD}
 use Rattle.process.specs.Sums.{sum}
 use Rattle.model.specs.View.{View, viewOf, sizeAt, deadlineAt, energyOf, M}
 use Rattle.model.specs.Plan.{IsPlanByte, planRefusal, rowRefusal, byteOfQueue}
-use Rattle.model.specs.Queue.{Queue, bearable, queueIn, oneSlot}
+use Rattle.model.specs.Queue.{queueIn, oneSlot}
 use Rattle.model.specs.Refusal.{sheetRefusal, valueLimit}
 use Rattle.model.specs.Stepper as model
 use Rattle.model.specs.declared.Sheet.{Sheet}

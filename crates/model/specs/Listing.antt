@@ -6,7 +6,7 @@ use Prim.Native.String.{String, [] as [·], _∷_ as _·∷_}
 use mathlib.Core.Bool.{cond, _&&_}
 use mathlib.Core.List.{List, [], _∷_, _++_}
 use lib.Dec.{leb, ltb}
-use lib.ListN.{length, getD}
+use lib.ListN.{length}
 use Rattle.model.specs.Bytes.{Written, written}
 use Rattle.model.specs.View.{View, W}
 use Rattle.model.specs.Plan.{byteAt, planNeeded}

@@ -1,7 +1,7 @@
 -- What the call answers and where it looks, by the model's refusals: what a refused plan and a filled one leave, and how many values are
 -- needed. What the call refuses is in laws/proofs/Rooms.antt.
 use Prim.Native.Nat.{ℕ, zero, suc, _*_, _≤_}
-use mathlib.Core.Path.{_≡_, refl, sym, ap, _∙_, subst}
+use mathlib.Core.Path.{_≡_, refl, sym, _∙_, subst}
 use mathlib.Core.List.{List}
 use native.Mathlib.Nat.{suc-mul}
 use native.Mathlib.Omega.{arith}

@@ -1,7 +1,6 @@
 -- `one_slot` meets its contract: the queue after the slot stands in its places, and no total of it is above 48, so that a size fits.
 use mathlib.Core.Path.{_≡_, sym, ap, _∙_, subst}
 use native.Mathlib.Omega.{arith}
-use borrow.Author.Needs.{needs}
 use Rattle.model.proofs.Queues.{length-in, length-run, in-first-places}
 use Rattle.model.specs.Queue.{Queue, queueIn, placesOf, run, arrive}
 use Rattle.slot.specs.Slot.{Small}

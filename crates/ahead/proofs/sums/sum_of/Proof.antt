@@ -1,8 +1,7 @@
 -- `sum_of` meets its contract. The loop's invariant: the sum so far is that over the entries passed. Once a value is none, so is the sum.
 -- That no sum passes the limit need not be in it: it is given for the sum over any number of first entries.
-use Prim.Native.Nat.{ℕ, _+_, _-_, _≤_}
+use Prim.Native.Nat.{_+_, _-_, _≤_}
 use mathlib.Core.Path.{_≡_, sym, ap, _∙_, subst}
-use mathlib.Core.Option.{Option}
 use native.Mathlib.Omega.{arith}
 use lib.ListN.{getD}
 use Rattle.process.specs.Recursion.{plus, times}

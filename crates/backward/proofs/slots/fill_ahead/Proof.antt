@@ -1,5 +1,4 @@
 -- `fill_ahead` meets its contract: the row says of each queue what its value is, so the sums that the first pass leaves are what is ahead.
-use native.Mathlib.Omega.{arith}
 use borrow.Author.Needs.{needs}
 use Rattle.value.specs.Narrow.{width}
 use Rattle.backward.proofs.FirstPass.{first-given, first-left}

@@ -1,5 +1,4 @@
 -- `fill_row` meets its contract: the buffer says what is ahead, so the least over the speeds that the second pass leaves is the recursion's.
-use native.Mathlib.Omega.{arith}
 use borrow.Author.Needs.{needs}
 use Rattle.value.specs.Narrow.{width}
 use Rattle.backward.proofs.SecondPass.{second-given, second-left}

@@ -1,5 +1,4 @@
 -- `byte_of_queue` meets its contract: the queue's number is below the count of queues.
-use Prim.Native.Nat.{ℕ}
 use mathlib.Core.Path.{ap, _∙_}
 use native.Mathlib.Omega.{arith}
 use borrow.Author.Needs.{needs}

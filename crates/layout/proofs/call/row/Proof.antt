@@ -1,5 +1,4 @@
 -- `row` meets its contract: the call is refused, or the slot is not one of the sheet's, or the part is the slot's row.
-use Prim.Native.Nat.{_+_, _*_, _≤_}
 use mathlib.Core.Path.{_≡_, sym, _∙_}
 use native.Mathlib.Omega.{arith}
 use borrow.Author.Needs.{needs}

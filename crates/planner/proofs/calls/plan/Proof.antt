@@ -1,5 +1,5 @@
 -- `plan` meets its contract: the call is refused and nothing is touched, or both tables are filled and the first value gives the answer.
-use Prim.Native.Nat.{_*_, _≤_}
+use Prim.Native.Nat.{_≤_}
 use mathlib.Core.Path.{_≡_, sym, _∙_}
 use native.Mathlib.Omega.{arith}
 use borrow.Author.Needs.{needs}

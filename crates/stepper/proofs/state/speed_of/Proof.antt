@@ -1,6 +1,5 @@
 -- `speed_of` meets its contract: the sheet or the plan's room is refused, or the state is not right, or the run has ended, or the plan byte
 -- decides.
-use Prim.Native.Nat.{ℕ}
 use mathlib.Core.Path.{_≡_, refl, sym, ap, subst, _∙_}
 use mathlib.Core.Bool.{Bool, true}
 use native.Mathlib.Omega.{arith}

@@ -1,6 +1,5 @@
 -- `moved` meets its contract: the next queue is not bearable, or the energy would pass its limit, or the next state is the model's.
 use Prim.Native.Nat.{ℕ, _+_}
-use mathlib.Core.List.{List}
 use mathlib.Core.Path.{_≡_, refl, sym, ap, _∙_, subst}
 use native.Mathlib.Numerals.{add-one}
 use native.Mathlib.Omega.{arith}
