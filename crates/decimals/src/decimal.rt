@@ -1,4 +1,6 @@
 // A number in decimal: how long it is, and how it is put at a place of a lent buffer.
+use buffers::lay;
+ghost use mathlib.Core.List.{_++_};
 ghost use mathlib.Core.Path.{_≡_};
 ghost use Prim.Native.Nat.{_+_, _^_, _≤_, _<_};
 ghost use lib.ListN.{length};
@@ -43,4 +45,13 @@ pub fn put_decimal(buffer: &mut [u8], at: usize, x: u64) -> usize
     ensures { λ r. ⌜ Laid at (decimal x) (now (buffer .entry)) (now (buffer .exit)) r ⌝ }
 {
     put_in(20, buffer, at, x)
+}
+
+// Puts a text, and a number behind it.
+pub fn put_with_text(buffer: &mut [u8], at: usize, text: &[u8], x: u64) -> usize
+    requires { ⌜ at + length (now text ++ decimal x) ≤ length (now buffer) ⌝ }
+    ensures { λ r. ⌜ Laid at (now (text .entry) ++ decimal x) (now (buffer .entry)) (now (buffer .exit)) r ⌝ }
+{
+    let next = lay(buffer, at, text);
+    put_decimal(buffer, next, x)
 }

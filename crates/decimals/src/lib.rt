@@ -4,4 +4,5 @@ mod refusal;
 
 pub use decimal::decimal_length;
 pub use decimal::put_decimal;
+pub use decimal::put_with_text;
 pub use refusal::put_refused;

@@ -1,5 +1,5 @@
 // The line that the planning program writes for a refusal.
-use crate::decimal::put_decimal;
+use crate::decimal::put_with_text;
 use buffers::lay;
 ghost use Prim.Native.Nat.{_≤_};
 ghost use lib.ListN.{length};
@@ -11,7 +11,6 @@ pub fn put_refused(buffer: &mut [u8], number: u32) -> usize
     requires { ⌜ 29 ≤ length (now buffer) ⌝ }
     ensures { λ r. ⌜ Laid 0 (refusedLine number) (now (buffer .entry)) (now (buffer .exit)) r × (r ≤ 29) ⌝ }
 {
-    let at_number = lay(buffer, 0, b"refused ");
-    let at_end = put_decimal(buffer, at_number, number as u64);
+    let at_end = put_with_text(buffer, 0, b"refused ", number as u64);
     lay(buffer, at_end, b"\n")
 }

@@ -1,7 +1,7 @@
 // The header of a listing: N, W to the power T, and the empty queue's value at slot 0.
 use buffers::lay;
 use decimals::decimal_length;
-use decimals::put_decimal;
+use decimals::put_with_text;
 use limits::weights;
 use model::Sheet;
 ghost use mathlib.Core.Path.{_≡_};
@@ -49,11 +49,8 @@ pub fn put_header(buffer: &mut [u8], head: Header) -> usize
     requires { ⌜ length (header (head .queues) (head .scale) (head .least)) ≤ length (now buffer) ⌝ }
     ensures { λ r. ⌜ Laid 0 (header (head .queues) (head .scale) (head .least)) (now (buffer .entry)) (now (buffer .exit)) r ⌝ }
 {
-    let at_queues = lay(buffer, 0, b"queues ");
-    let after_queues = put_decimal(buffer, at_queues, head.queues as u64);
-    let at_scale = lay(buffer, after_queues, b" scale ");
-    let after_scale = put_decimal(buffer, at_scale, head.scale);
-    let at_least = lay(buffer, after_scale, b" least ");
-    let at_end = put_decimal(buffer, at_least, head.least);
+    let at_scale = put_with_text(buffer, 0, b"queues ", head.queues as u64);
+    let at_least = put_with_text(buffer, at_scale, b" scale ", head.scale);
+    let at_end = put_with_text(buffer, at_least, b" least ", head.least);
     lay(buffer, at_end, b"\n")
 }

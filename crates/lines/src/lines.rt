@@ -2,6 +2,7 @@
 use buffers::lay;
 use decimals::decimal_length;
 use decimals::put_decimal;
+use decimals::put_with_text;
 use layout::byte_at;
 ghost use mathlib.Core.Path.{_≡_};
 ghost use Prim.Native.Nat.{_+_, _*_, _≤_};
@@ -57,13 +58,12 @@ pub fn lines_length(plan: &[u8], queues: usize, slots: u32) -> usize
     all
 }
 
-// Puts a space and a plan byte; answers the next place.
+// Puts a space and a plan byte.
 fn put_byte(buffer: &mut [u8], at: usize, byte: u8) -> usize
     requires { ⌜ at + length (byteListed byte) ≤ length (now buffer) ⌝ }
     ensures { λ r. ⌜ Laid at (byteListed byte) (now (buffer .entry)) (now (buffer .exit)) r ⌝ }
 {
-    buffer[at] = b' ';
-    put_decimal(buffer, at + 1, byte as u64)
+    put_with_text(buffer, at, b" ", byte as u64)
 }
 
 // Puts the plan bytes of a slot.
