@@ -10,7 +10,7 @@ use borrow.Author.Tests.{ne-eqb, eqb-false, lt-leb, le-leb, ltb-true, ltb-false}
 use lib.Dec.{leb, ltb, eqb}
 use lib.ListN.{length, getD}
 use Rattle.model.specs.View.{View, viewWith, inMemory, zeroSheet, zeroSpeed, zeroJob}
-use Rattle.model.specs.Reading.{Answer, value, refused, Reader, onward, done, test, refuse, joined, numberIn, field, readSpeed, readSpeeds, readSpeedTable, readJob, readJobs, readJobTable, ended, judged, readView, readAnswer, read}
+use Rattle.model.specs.Reading.{_>>=_, _>>_, Answer, value, refused, Reader, onward, done, test, refuse, joined, numberIn, field, readSpeed, readSpeeds, readSpeedTable, readJob, readJobs, readJobTable, ended, judged, readView, readAnswer, read}
 use Rattle.model.specs.Refusal.{boundRight, speedCountRight, speedRight, energyRight, horizonRight, jobCountRight, weightRight, sizeRight, deadlineRight, speedField, jobField, linesOfSpeed, linesOfJob, speedsLines, jobsLines, fieldLines, limitLines, limitsRefusal, N, valueLimit}
 use Rattle.model.specs.Tests.{check, _then_, line, _⨾_, firstOf, inOrder, listed}
 use Rattle.model.specs.declared.Job.{Job}

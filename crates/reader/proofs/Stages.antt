@@ -6,7 +6,7 @@ use native.Mathlib.Nat.{suc-ne-zero}
 use borrow.Author.Tests.{le-leb, lt-leb}
 use lib.ListN.{length}
 use Rattle.model.specs.View.{View, viewWith, viewOf, inMemory, zeroSheet}
-use Rattle.model.specs.Reading.{Answer, value, refused, Reader, _>>_, done, test, refuse, field, ended, readSpeedTable, readJobTable, judged, readView, readAnswer, read}
+use Rattle.model.specs.Reading.{Answer, value, refused, Reader, _>>=_, _>>_, done, test, refuse, field, ended, readSpeedTable, readJobTable, judged, readView, readAnswer, read}
 use Rattle.model.specs.Refusal.{boundRight, horizonRight, fieldsRefusal, limitsRefusal, N, valueLimit}
 use Rattle.model.specs.declared.Job.{Job}
 use Rattle.model.specs.declared.Sheet.{Sheet}
