@@ -6,9 +6,9 @@ use mathlib.Core.Path.{_≡_, refl, sym, ap, _∙_, subst}
 use mathlib.Core.List.{List}
 use mathlib.Core.Logic.{inr, ⊎-elim}
 use mathlib.Core.Option.{Option, some}
-use native.Mathlib.Nat.{add-mul, mul-le-mul-right, one-mul, suc-mul, eq-or-lt-of-le, pow-succ'}
+use native.Mathlib.Nat.{mul-le-mul-right, suc-mul, sub-self, eq-or-lt-of-le, pow-succ'}
 use native.Mathlib.Omega.{arith}
-use lib.ListN.{length, getD}
+use lib.ListN.{length}
 use Rattle.process.specs.Recursion.{plus, times}
 use Rattle.model.specs.View.{View, W, M}
 use Rattle.model.specs.Plan.{queueAt, placeAt, valuesNeeded, valuePlaces, planNeeded}
@@ -19,9 +19,11 @@ use Rattle.model.proofs.Refusal.{Accepted, N-is}
 use Rattle.buffers.specs.Fills.{Fills, numberAt}
 use Rattle.model.specs.Width.{Width, valueIn}
 use Rattle.value.specs.Values.{Fits}
-use Rattle.buffers.proofs.Filling.{fewer-fit, value-local, number-local, fills-outside}
+use Rattle.buffers.proofs.Filling.{Local, fewer-fit, value-local, number-local, fills-outside, fills-whole}
 use Rattle.sheets.specs.Sizes.{Sized}
 use Rattle.sheets.specs.declared.sizes.Sizes.{Sizes}
+use Rattle.layout.specs.Places.{placeIn}
+use Rattle.layout.proofs.Within.{place-is}
 use Rattle.choose.specs.Choice.{byteOf}
 use Rattle.backward.specs.Passes.{valueWith, choiceWith, aheadOf, queueAfter, ValueRow, AheadRow, InPlan, Planned, PlannedFrom}
 use Rattle.backward.proofs.Fits.{scale-fits}
@@ -52,43 +54,45 @@ sizes-small s a sized = (omega (arith, sized .queues-is, a .queues-high), a .ran
 row-behind : (n t u : ℕ) → t < u → t * n + n ≤ u * n
 row-behind n t u h = omega (arith, mul-le-mul-right n h, suc-mul t n)
 
--- the row of the slot with so many left, as the code finds it
-
-module _ (horizon left n this : ℕ) (h : left < horizon) (e : this ≡ (horizon - 1 - left) * n + 0) where
-  -- the next row begins where it ends
-  pub row-next : (next : ℕ) → next ≡ (horizon - 1 - left + 1) * n + 0 → next ≡ this + n
-  row-next next d = omega (arith, add-mul (horizon - 1 - left) 1 n, one-mul n)
-
-  -- it and as many rows as are left reach to the end row
-  pub row-back : this + suc left * n ≡ horizon * n
-  row-back =
-      let all : horizon ≡ horizon - 1 - left + suc left = omega arith in
-      omega (arith, ap (λ (x : ℕ). x * n) all, add-mul (horizon - 1 - left) (suc left) n)
-
--- a slot that has k left after it: its rows of values and of plan bytes begin k + 1 rows before where the end row does, and the next
--- slot's row of values right behind its own
-pub record SlotRows (s : View) (k left this next row : ℕ) : Type 0 where
-  pub left-low : k < s .horizon
-  pub left-is : left ≡ k
-  pub next-is : next ≡ this + N s
-  pub this-is : this + suc k * N s ≡ s .horizon * N s
-  pub row-is : row + suc k * N s ≡ s .horizon * N s
-
--- so does the slot that the code makes
-pub slot-rows : (s : View) (k : ℕ) {left this next row queues : ℕ} → queues ≡ N s → k < s .horizon → left ≡ k → next ≡ this + queues →
-    this + suc k * queues ≡ s .horizon * queues → row + suc k * queues ≡ s .horizon * queues → SlotRows s k left this next row
-slot-rows s k {this = this} {row = row} e low left-is next-is this-is row-is =
-    record {
-      left-low = low;
-      left-is = left-is;
-      next-is = omega arith;
-      this-is = subst (λ (n : ℕ). this + suc k * n ≡ s .horizon * n) e this-is;
-      row-is = subst (λ (n : ℕ). row + suc k * n ≡ s .horizon * n) e row-is;
-    }
+-- a row that is filled, of values or of plan bytes: in it stand the things of its slot, and in the rows behind it what stood there
+row-filled : {A : Type 0} (places : ℕ) (reader : List ℕ → ℕ → A) → Local places reader → (s : View) (t : ℕ) {from : ℕ} → from ≡ placeAt s t 0 →
+    {f : ℕ → A} {before after : List ℕ} → Fills places reader f from (N s) before after → (g : ℕ → ℕ → A) → (u i : ℕ) → t ≤ u → i < N s →
+    f i ≡ g t i → (t < u → reader before (placeAt s u i) ≡ g u i) → reader after (placeAt s u i) ≡ g u i
+row-filled places reader local s t {from} place {before = before} {after = after} filled g u i h inside same behind =
+    ⊎-elim here (λ l. fills-outside places reader local filled (placeAt s u i) (inr (omega (arith, row-behind (N s) t u l))) ∙ behind l)
+    (eq-or-lt-of-le h)
+  where
+    here : t ≡ u → reader after (placeAt s u i) ≡ g u i
+    here e =
+        let at : from + i ≡ placeAt s t i = omega arith in
+        subst (λ (x : ℕ). reader after (placeAt s x i) ≡ g x i) e
+        (subst (λ (p : ℕ). reader after p ≡ g t i) at (filled .filled i inside ∙ same))
 
 -- the slot that has k left after it, counted from 0
 abbrev slotWith : View → ℕ → ℕ
 slotWith s k = s .horizon - suc k
+
+-- where its rows of values and of plan bytes begin, and the next slot's row of values
+pub record SlotRows (s : View) (k left this next row : ℕ) : Type 0 where
+  pub left-low : k < s .horizon
+  pub left-is : left ≡ k
+  pub this-is : this ≡ placeAt s (slotWith s k) 0
+  pub next-is : next ≡ placeAt s (suc (slotWith s k)) 0
+  pub row-is : row ≡ placeAt s (slotWith s k) 0
+
+-- so it is with the slot that the code makes
+pub slot-rows : (s : View) (k : ℕ) {sizes : Sizes} → Sized s sizes → {left this next row : ℕ} → k < s .horizon → left ≡ k →
+    this ≡ placeIn (sizes .queues) (s .horizon - suc k) 0 → next ≡ placeIn (sizes .queues) (s .horizon - k) 0 →
+    row ≡ placeIn (sizes .queues) (s .horizon - suc k) 0 → SlotRows s k left this next row
+slot-rows s k sized low left-is this-is next-is row-is =
+    let later : s .horizon - k ≡ suc (slotWith s k) = omega arith in
+    record {
+      left-low = low;
+      left-is = left-is;
+      this-is = this-is ∙ place-is s sized (slotWith s k) 0;
+      next-is = next-is ∙ place-is s sized (s .horizon - k) 0 ∙ ap (λ (t : ℕ). placeAt s t 0) later;
+      row-is = row-is ∙ place-is s sized (slotWith s k) 0;
+    }
 
 module _ (s : View) (k : ℕ) {left this next row : ℕ} (at : SlotRows s k left this next row) where
   -- it is one of the sheet's, and has its scale
@@ -99,35 +103,20 @@ module _ (s : View) (k : ℕ) {left this next row : ℕ} (at : SlotRows s k left
         scale-is = e ∙ ap (λ (l : ℕ). some (W s ^ suc l)) (sym (at .left-is));
       }
 
-  -- a row that begins so many rows before the end row is the slot's
-  row-at : (from : ℕ) → from + suc k * N s ≡ s .horizon * N s → from ≡ slotWith s k * N s
-  row-at from e =
-      let all : s .horizon ≡ slotWith s k + suc k = omega (arith, at .left-low) in
-      omega (arith, ap (λ (x : ℕ). x * N s) all, add-mul (slotWith s k) (suc k) (N s))
-
-  -- so its rows begin where they should
-
-  this-place : this ≡ slotWith s k * N s
-  this-place = row-at this (at .this-is)
-
-  row-place : row ≡ slotWith s k * N s
-  row-place = row-at row (at .row-is)
-
-  -- they end where the end row begins, or before
-
+  -- its rows end where the end row begins, or before
   row-ends : slotWith s k * N s + N s ≤ s .horizon * N s
   row-ends = row-behind (N s) (slotWith s k) (s .horizon) (omega (arith, at .left-low))
 
   plan-within : row + N s ≤ planNeeded s
-  plan-within = omega (arith, row-place, row-ends)
+  plan-within = omega (arith, at .row-is, row-ends)
 
   -- so that its row of values, and the next one, are within what is needed
 
   this-within : this + N s ≤ valuesNeeded s
-  this-within = omega (arith, this-place, row-ends, suc-mul (s .horizon) (N s))
+  this-within = omega (arith, at .this-is, row-ends, suc-mul (s .horizon) (N s))
 
   next-within : next + N s ≤ valuesNeeded s
-  next-within = omega (arith, this-place, row-ends, suc-mul (s .horizon) (N s), at .next-is)
+  next-within = omega (arith, at .next-is, row-ends, suc-mul (s .horizon) (N s), suc-mul (slotWith s k) (N s))
 
 -- one slot, where the slots behind it are planned
 module _ (width : Width) (s : View) (k : ℕ) {left this next row : ℕ} (at : SlotRows s k left this next row)
@@ -140,76 +129,48 @@ module _ (width : Width) (s : View) (k : ℕ) {left this next row : ℕ} (at : S
   pub plan-room : planNeeded s ≤ length plan₀ → row + N s ≤ length plan
   plan-room room = omega (arith, plan-within s k at, past .plan-length)
 
-  -- the row of the next slot stands
-  pub next-stands : valuePlaces width s ≤ length values₀ → ValueRow width s left next values
-  next-stands room =
+  -- the row of the next slot is there
+  pub next-there : valuePlaces width s ≤ length values₀ → ValueRow width s left next values
+  next-there room =
       record {
         room = fewer-fit width (next-within s k at) (omega (arith, past .values-length));
         right = λ i h.
-            let t = slotWith s k in
-            let fewer : s .horizon - suc t ≡ left = omega (arith, at .left-low, at .left-is) in
-            let place : placeAt s (suc t) i ≡ next + i = omega (arith, this-place s k at, at .next-is, suc-mul t (N s)) in
+            let t = suc (slotWith s k) in
+            let fewer : s .horizon - t ≡ left = omega (arith, at .left-low, at .left-is) in
+            let place : placeAt s t i ≡ next + i = omega (arith, at .next-is) in
             subst (λ (p : ℕ). valueIn width values p ≡ valueWith s left (queueAt s i)) place
-            (past .values-right (suc t) i (omega (arith, at .left-low)) (omega (arith, at .left-low)) h ∙
+            (past .values-right t i (omega (arith, at .left-low)) (omega (arith, at .left-low)) h ∙
             ap (λ (l : ℕ). valueWith s l (queueAt s i)) fewer);
       }
 
   -- where the slot has filled its rows, one slot more is planned: the rows behind its own are as they were
   pub planned-more : {values′ plan′ : List ℕ} → Planned width s left this row values plan values′ plan′ →
       PlannedFrom width s (k + 1) values₀ plan₀ values′ plan′
-  planned-more {values′ = values′} {plan′ = plan′} filled =
+  planned-more filled =
+      let t = slotWith s k in
+      let slots : suc left ≡ s .horizon - t = omega (arith, at .left-low, at .left-is) in
+      let fewer : left ≡ pred (s .horizon - t) = omega (arith, at .left-low, at .left-is) in
       record {
         values-length = filled .values-filled .same-length ∙ past .values-length;
         plan-length = filled .plan-filled .same-length ∙ past .plan-length;
-        values-right = λ u i from upto h. ⊎-elim (value-here u i h) (value-behind u i upto h) (eq-or-lt-of-le (reached u from));
-        plan-right = λ u i from upto h. ⊎-elim (byte-here u i h) (byte-behind u i upto h) (eq-or-lt-of-le (reached u from));
+        values-right = λ u i from upto h.
+            row-filled (width .places) (valueIn width) (value-local width) s t (at .this-is) (filled .values-filled)
+            (λ x j. valueWith s (s .horizon - x) (queueAt s j)) u i (omega (arith, at .left-low)) h
+            (ap (λ (l : ℕ). valueWith s l (queueAt s i)) slots) (λ l. past .values-right u i (omega arith) upto h);
+        plan-right = λ u i from upto h.
+            row-filled 1 numberAt number-local s t (at .row-is) (filled .plan-filled)
+            (λ x j. byteOf (choiceWith s (pred (s .horizon - x)) (queueAt s j))) u i (omega (arith, at .left-low)) h
+            (ap (λ (l : ℕ). byteOf (choiceWith s l (queueAt s i))) fewer) (λ l. past .plan-right u i (omega arith) upto h);
         values-beyond = λ p h.
             filled .values-filled .outside p (inr (fewer-fit width (this-within s k at) h)) ∙ past .values-beyond p h;
         plan-beyond = λ p h. filled .plan-filled .outside p (inr (omega (arith, plan-within s k at))) ∙ past .plan-beyond p h;
       }
-    where
-      reached : (u : ℕ) → s .horizon ≤ u + (k + 1) → slotWith s k ≤ u
-      reached u h = omega (arith, at .left-low)
-
-      here : (u i : ℕ) → slotWith s k ≡ u → slotWith s k * N s + i ≡ placeAt s u i
-      here u i e = omega (arith, ap (λ (x : ℕ). x * N s) e)
-
-      behind : (u i : ℕ) → slotWith s k < u → slotWith s k * N s + N s ≤ placeAt s u i
-      behind u i l = omega (arith, row-behind (N s) (slotWith s k) u l)
-
-      value-here : (u i : ℕ) → i < N s → slotWith s k ≡ u → valueIn width values′ (placeAt s u i) ≡ valueWith s (s .horizon - u) (queueAt s i)
-      value-here u i h e =
-          let more : suc left ≡ s .horizon - u = omega (arith, at .left-low, at .left-is) in
-          let place : this + i ≡ placeAt s u i = omega (arith, here u i e, this-place s k at) in
-          subst (λ (p : ℕ). valueIn width values′ p ≡ valueWith s (s .horizon - u) (queueAt s i)) place
-          (filled .values-filled .filled i h ∙ ap (λ (l : ℕ). valueWith s l (queueAt s i)) more)
-
-      value-behind : (u i : ℕ) → u ≤ s .horizon → i < N s → slotWith s k < u →
-          valueIn width values′ (placeAt s u i) ≡ valueWith s (s .horizon - u) (queueAt s i)
-      value-behind u i upto h l =
-          fills-outside (width .places) (valueIn width) (value-local width) (filled .values-filled) (placeAt s u i)
-          (inr (omega (arith, behind u i l, this-place s k at))) ∙
-          past .values-right u i (omega arith) upto h
-
-      byte-here : (u i : ℕ) → i < N s → slotWith s k ≡ u →
-          getD plan′ (placeAt s u i) 0 ≡ byteOf (choiceWith s (pred (s .horizon - u)) (queueAt s i))
-      byte-here u i h e =
-          let same : left ≡ pred (s .horizon - u) = omega (arith, at .left-low, at .left-is) in
-          let place : row + i ≡ placeAt s u i = omega (arith, here u i e, row-place s k at) in
-          subst (λ (p : ℕ). getD plan′ p 0 ≡ byteOf (choiceWith s (pred (s .horizon - u)) (queueAt s i))) place
-          (filled .plan-filled .filled i h ∙ ap (λ (l : ℕ). byteOf (choiceWith s l (queueAt s i))) same)
-
-      byte-behind : (u i : ℕ) → u < s .horizon → i < N s → slotWith s k < u →
-          getD plan′ (placeAt s u i) 0 ≡ byteOf (choiceWith s (pred (s .horizon - u)) (queueAt s i))
-      byte-behind u i upto h l =
-          fills-outside 1 numberAt number-local (filled .plan-filled) (placeAt s u i) (inr (omega (arith, behind u i l, row-place s k at))) ∙
-          past .plan-right u i (omega arith) upto h
 
 -- the first pass leaves what the second one needs
-pub ahead-stands : (width : Width) (s : View) (k after : ℕ) {ahead₀ ahead : List ℕ} → after ≡ queueCount (M s) (pred (s .bound)) →
+pub ahead-there : (width : Width) (s : View) (k after : ℕ) {ahead₀ ahead : List ℕ} → after ≡ queueCount (M s) (pred (s .bound)) →
     after * width .places ≤ length ahead₀ →
     Fills (width .places) (valueIn width) (λ i. aheadOf s k (queueAfter s i)) 0 after ahead₀ ahead → AheadRow width s k ahead
-ahead-stands width s k after e room filled =
+ahead-there width s k after e room filled =
     record {
       room = fewer-fit width {m = after} (omega arith) (omega (arith, filled .same-length));
       right = λ i h. filled .filled i (omega arith);
@@ -221,38 +182,35 @@ ahead-stands width s k after e room filled =
 row-last : (s : View) (i : ℕ) → i < N s → valueWith s 0 (queueAt s i) ≡ some 0
 row-last s i h = value-last s (queueAt s i) (listed-bearable (M s) (s .bound) i (omega (arith, N-is s)) .1)
 
-module _ (width : Width) (s : View) (queues from : ℕ) (e : queues ≡ N s) (d : from ≡ s .horizon * queues + 0) where
-  -- it begins behind the rows of all slots
-  end-place : from ≡ s .horizon * N s
-  end-place = omega (arith, ap (λ (n : ℕ). s .horizon * n) e)
+-- it begins where the place of the horizon is
+module _ (width : Width) (s : View) {sizes : Sizes} (sized : Sized s sizes) {from : ℕ} (d : from ≡ placeIn (sizes .queues) (s .horizon) 0) where
+  end-place : from ≡ placeAt s (s .horizon) 0
+  end-place = d ∙ place-is s sized (s .horizon) 0
 
   -- and ends where what is needed does
-  end-within : from + queues ≤ valuesNeeded s
-  end-within = omega (arith, end-place, suc-mul (s .horizon) (N s))
+  end-within : from + sizes .queues ≤ valuesNeeded s
+  end-within = omega (arith, end-place, sized .queues-is, suc-mul (s .horizon) (N s))
 
   -- it is within the lent memory
-  pub end-room : (values : List ℕ) → valuePlaces width s ≤ length values → (from + queues) * width .places ≤ length values
+  pub end-room : (values : List ℕ) → valuePlaces width s ≤ length values → (from + sizes .queues) * width .places ≤ length values
   end-room values room = fewer-fit width end-within room
 
-  module _ {values₀ values : List ℕ} (filled : Fills (width .places) (valueIn width) (λ i. some 0) from queues values₀ values) where
-    -- once it stands the lent memory is planned as far as no slot
+  module _ {values₀ values : List ℕ} (filled : Fills (width .places) (valueIn width) (λ i. some 0) from (sizes .queues) values₀ values) where
+    -- once it is there the lent memory is planned as far as no slot
     pub planned-none : (plan : List ℕ) → PlannedFrom width s 0 values plan values plan
     planned-none plan =
         record {
           values-length = refl;
           plan-length = refl;
-          values-right = λ t i low upto h. last t i (omega arith) h;
+          values-right = λ t i low upto h.
+              row-filled (width .places) (valueIn width) (value-local width) s (s .horizon) end-place
+              (fills-whole (width .places) (valueIn width) filled (sized .queues-is)) (λ x j. valueWith s (s .horizon - x) (queueAt s j)) t i
+              (omega arith) h (sym (row-last s i h) ∙ ap (λ (k : ℕ). valueWith s k (queueAt s i)) (sym (sub-self (s .horizon))))
+              (λ l. absurd (omega arith));
           plan-right = λ t i low upto h. absurd (omega arith);
           values-beyond = λ p h. refl;
           plan-beyond = λ p h. refl;
         }
-      where
-        last : (t i : ℕ) → t ≡ s .horizon → i < N s → valueIn width values (placeAt s t i) ≡ valueWith s (s .horizon - t) (queueAt s i)
-        last t i here h =
-            let place : from + i ≡ placeAt s t i = omega (arith, end-place, ap (λ (x : ℕ). x * N s) here) in
-            let none : 0 ≡ s .horizon - t = omega arith in
-            subst (λ (p : ℕ). valueIn width values p ≡ valueWith s (s .horizon - t) (queueAt s i)) place
-            (filled .filled i (omega arith) ∙ sym (row-last s i h) ∙ ap (λ (k : ℕ). valueWith s k (queueAt s i)) none)
 
     -- what is planned from there on is planned from before it was filled on
     pub planned-since : (k : ℕ) {plan₀ values′ plan′ : List ℕ} → PlannedFrom width s k values plan₀ values′ plan′ →

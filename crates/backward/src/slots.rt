@@ -6,10 +6,11 @@ use sheets::Sizes;
 use value::Value;
 ghost use mathlib.Core.Path.{_≡_};
 ghost use mathlib.Core.Option.{some};
-ghost use Prim.Native.Nat.{suc, _+_, _*_, _≤_, _<_};
+ghost use Prim.Native.Nat.{suc, _+_, _*_, _-_, _≤_, _<_};
 ghost use lib.ListN.{length};
 ghost use Rattle.model.specs.View.{viewOf};
 ghost use Rattle.model.specs.Plan.{valuePlaces, planNeeded};
+ghost use Rattle.layout.specs.Places.{placeIn};
 ghost use Rattle.buffers.specs.Fills.{Fills};
 ghost use Rattle.value.specs.Narrow.{width, valueOf};
 ghost use Rattle.model.specs.Width.{valueIn};
@@ -42,8 +43,8 @@ fn fill_end(queues: usize, from: usize, values: &mut [u64])
 // The slot with so many slots left after it.
 fn slot_with(queues: usize, horizon: u32, left: u32, scale: Value) -> Slot
     requires { ⌜ (queues ≤ 65535) × (horizon ≤ 200) × (left < horizon) ⌝ }
-    ensures { λ r. ⌜ (r .left ≡ left) × (r .scale ≡ scale) × (r .next ≡ r .this + queues) ×
-        (r .this + suc left * queues ≡ horizon * queues) × (r .row + suc left * queues ≡ horizon * queues) ⌝ }
+    ensures { λ r. ⌜ (r .left ≡ left) × (r .scale ≡ scale) × (r .this ≡ placeIn queues (horizon - suc left) 0) ×
+        (r .next ≡ placeIn queues (horizon - left) 0) × (r .row ≡ placeIn queues (horizon - suc left) 0) ⌝ }
 {
     let this = horizon - 1 - left;
     Slot {

@@ -58,7 +58,7 @@ fill-end-requires : tie.Need-fill-end-requires
 fill-end-requires c κs =
     let placed = c .before in
     let start = placed .before .before .before .before .before .before .before .before .before in
-    end-room width (viewOf (start .args .sheet)) (start .args .sizes .queues) (placed .place .result) (start .pre .0 .sized .queues-is)
+    end-room width (viewOf (start .args .sheet)) (start .pre .0 .sized)
     (placed .place .ensures) (start .args .values .now) (start .pre .2)
 
 slice-aggregate-fill-slots : tie.Need-slice-aggregate-fill-slots
@@ -82,7 +82,7 @@ fill-slots-requires c κs =
         start .pre .0,
         start .pre .1,
         omega (arith, start .pre .2, ended .fill-end .ensures .same-length),
-        planned-none width (viewOf (start .args .sheet)) (start .args .sizes .queues) (placed .place .result) (start .pre .0 .sized .queues-is)
+        planned-none width (viewOf (start .args .sheet)) (start .pre .0 .sized)
             (placed .place .ensures) (ended .fill-end .ensures) (start .args .plan .now),
       ),
       (first .fill-table .ensures, second .fill-table2 .ensures),
@@ -100,7 +100,7 @@ returns c =
     let ended = called .before .before .before .before .before .before .before in
     let placed = ended .before .before in
     let start = placed .before .before .before .before .before .before .before .before .before in
-    planned-since width (viewOf (start .args .sheet)) (start .args .sizes .queues) (placed .place .result) (start .pre .0 .sized .queues-is)
+    planned-since width (viewOf (start .args .sheet)) (start .pre .0 .sized)
     (placed .place .ensures) (ended .fill-end .ensures) (start .args .sheet .horizon) (called .fill-slots .ensures)
 
 pub fill-spec : {M : Type 1} → statement M

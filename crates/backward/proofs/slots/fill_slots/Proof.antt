@@ -13,7 +13,7 @@ use Rattle.value.specs.Narrow.{width, valueOf}
 use Rattle.sheets.proofs.Measures.{measured}
 use Rattle.rows.proofs.Room.{after-room}
 use Rattle.backward.specs.Passes.{PlannedFrom}
-use Rattle.backward.proofs.Backward.{scale-next, scale-room, sizes-small, SlotRows, slot-rows, slot-in-plan, values-room, plan-room, next-stands, planned-more}
+use Rattle.backward.proofs.Backward.{scale-next, scale-room, sizes-small, SlotRows, slot-rows, slot-in-plan, values-room, plan-room, next-there, planned-more}
 use Rattle.backward.proofs.slots.fill_slots.Statement.{statement}
 use Rattle.backward.proofs.slots.fill_slots.Tie as tie
 
@@ -59,18 +59,17 @@ slot-with-requires c κs =
     let small = sizes-small (viewOf (start .args .sheet)) (accepted (viewOf (start .args .sheet)) (start .pre .0 .0 .accepted)) (start .pre .0 .0 .sized) in
     (small .0, omega (arith, small .1), omega (arith, c .before .before .if1 .taken))
 
--- the slot of this turn stands where it should
-stands : (c : tie.After-slot-with Inv-loop μ-loop) →
+-- the rows of this turn's slot are where they should be
+rows-at : (c : tie.After-slot-with Inv-loop μ-loop) →
     let turn = c .before .before .before .before .before in
     let slot = c .slot-with .result in
     SlotRows (sheetIn turn) (turn .loop .left) (slot .left) (slot .this) (slot .next) (slot .row)
-stands c =
+rows-at c =
     let turn = c .before .before .before .before .before in
     let start = turn .before .before .before .before .before .before .before in
     let made = c .slot-with .ensures in
-    slot-rows (sheetIn turn) (turn .loop .left) (start .pre .0 .0 .sized .queues-is) (c .before .before .before .if1 .taken) (made .0)
-    (made .2)
-    (made .3) (made .4)
+    slot-rows (sheetIn turn) (turn .loop .left) (start .pre .0 .0 .sized) (c .before .before .before .if1 .taken) (made .0) (made .2) (made .3)
+    (made .4)
 
 -- and its scale is right
 scaled : (c : tie.After-add Inv-loop μ-loop) →
@@ -91,7 +90,7 @@ fill-slot-requires c κs =
     let start = turn .before .before .before .before .before .before .before in
     let s = sheetIn turn in
     let k = turn .loop .left in
-    let at = stands made in
+    let at = rows-at made in
     let sized = start .pre .0 .0 .sized in
     let past = turn .loop .inv .3 in (
       (
@@ -100,7 +99,7 @@ fill-slot-requires c κs =
           in-plan = slot-in-plan s k at
               (ap valueOf (made .slot-with .ensures .1) ∙ scaled (made .before));
         },
-        next-stands width s k at past (start .pre .0 .2),
+        next-there width s k at past (start .pre .0 .2),
         omega (arith, after-room (measured s _ (accepted s (start .pre .0 .0 .accepted)) sized), turn .loop .inv .1),
         omega (arith, values-room width s k at past (start .pre .0 .2), sized .queues-is),
         omega (arith, plan-room width s k at past (start .pre .0 .1), sized .queues-is),
@@ -132,7 +131,7 @@ loop-again c =
       omega arith,
       called .fill-slot .kept .1 .1 .1 .1 .0 ∙ turn .loop .inv .1,
       scaled (made .before) ∙ ap (λ n. some (W s ^ n)) (sym (add-one k)),
-      planned-more width s k (stands made) (turn .loop .inv .3) (called .fill-slot .ensures),
+      planned-more width s k (rows-at made) (turn .loop .inv .3) (called .fill-slot .ensures),
     )
 
 same-length : tie.Need-same-length Inv-loop μ-loop

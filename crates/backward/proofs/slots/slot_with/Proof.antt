@@ -1,7 +1,9 @@
--- `slot_with` meets its contract: the slot's row stands so many rows before the end row, one before the next.
-use mathlib.Core.Path.{refl}
+-- `slot_with` meets its contract: the place of the slot, and of the one behind it.
+use Prim.Native.Nat.{ℕ, suc, _+_, _-_}
+use mathlib.Core.Path.{_≡_, refl, ap, _∙_}
+use native.Mathlib.Omega.{arith}
 use borrow.Author.Needs.{needs}
-use Rattle.backward.proofs.Backward.{row-next, row-back}
+use Rattle.layout.specs.Places.{placeIn}
 use Rattle.backward.proofs.slots.slot_with.Statement.{statement}
 use Rattle.backward.proofs.slots.slot_with.Tie as tie
 
@@ -27,12 +29,14 @@ returns : tie.Need-returns
 returns c =
     let start = c .before .before .before in
     let a = start .args in
-    let first = c .before .before .place .ensures in (
+    let this : a .horizon - 1 - a .left ≡ a .horizon - suc (a .left) = omega arith in
+    let next : a .horizon - 1 - a .left + 1 ≡ a .horizon - a .left = omega (arith, start .pre .2) in
+    let place : ℕ → ℕ = λ t. placeIn (a .queues) t 0 in (
       refl,
       refl,
-      row-next (a .horizon) (a .left) (a .queues) _ (start .pre .2) first _ (c .before .place2 .ensures),
-      row-back (a .horizon) (a .left) (a .queues) _ (start .pre .2) first,
-      row-back (a .horizon) (a .left) (a .queues) _ (start .pre .2) (c .place3 .ensures),
+      c .before .before .place .ensures ∙ ap place this,
+      c .before .place2 .ensures ∙ ap place next,
+      c .place3 .ensures ∙ ap place this,
     )
 
 pub slot-with-spec : {M : Type 1} → statement M
