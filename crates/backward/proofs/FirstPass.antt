@@ -51,8 +51,8 @@ module _ (s : View) where
 
 -- what the first pass is given, and what it leaves
 
-module _ (width : Width) {counts : List ℕ} {s : View} {sizes : Sizes} {left : ℕ} {scale : Option ℕ}
-    (ready : Ready width counts s sizes left scale) {next : ℕ} {values : List ℕ} (row : ValueRow width s left next values) where
+module _ (width : Width) {s : View} {sizes : Sizes} {left : ℕ} {scale : Option ℕ}
+    (ready : Ready width s sizes left scale) {next : ℕ} {values : List ℕ} (row : ValueRow width s left next values) where
   abbrev is-accepted : Accepted (width .limit) s
   is-accepted = accepted s (ready .prepared .accepted)
 

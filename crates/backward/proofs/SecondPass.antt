@@ -70,8 +70,8 @@ module _ (s : View) {limit : ℕ} (a : Accepted limit s) (k : ℕ) (w : Queue) w
 
 -- what the second pass is given, and what it leaves
 
-module _ (width : Width) {counts : List ℕ} {s : View} {sizes : Sizes} {left : ℕ} {scale : Option ℕ}
-    (ready : Ready width counts s sizes left scale) {ahead : List ℕ} (row : AheadRow width s left ahead) where
+module _ (width : Width) {s : View} {sizes : Sizes} {left : ℕ} {scale : Option ℕ}
+    (ready : Ready width s sizes left scale) {ahead : List ℕ} (row : AheadRow width s left ahead) where
   abbrev is-accepted : Accepted (width .limit) s
   is-accepted = accepted s (ready .prepared .accepted)
 

@@ -10,7 +10,6 @@ use Rattle.model.specs.View.{View, weightAt, W, M}
 use Rattle.model.specs.Plan.{processOf, queueAt, placeAt, byteAt, valuePlaces, planNeeded}
 use Rattle.model.specs.Queue.{Queue, queueCount}
 use Rattle.model.specs.Refusal.{N, sheetRefusal}
-use Rattle.counts.specs.Counts.{HoldsCounts}
 use Rattle.model.specs.Width.{Width, valueIn}
 use Rattle.buffers.specs.Fills.{Fills, numberAt}
 use Rattle.rows.specs.Rows.{Row, afterWith}
@@ -56,15 +55,14 @@ pub record InPlan (s : View) (left : ℕ) (scale : Option ℕ) : Type 0 where
   pub left-low : left < s .horizon
   pub scale-is : scale ≡ some (W s ^ suc left)
 
--- what every pass is given: the counts, a sheet that is accepted by the limit of the width, and its sizes
-pub record Prepared (width : Width) (counts : List ℕ) (s : View) (sizes : Sizes) : Type 0 where
-  pub holds : HoldsCounts counts
+-- what every pass is given: a sheet that is accepted by the limit of the width, and its sizes
+pub record Prepared (width : Width) (s : View) (sizes : Sizes) : Type 0 where
   pub accepted : sheetRefusal (width .limit) s ≡ 0
   pub sized : Sized s sizes
 
 -- .. and one of its slots
-pub record Ready (width : Width) (counts : List ℕ) (s : View) (sizes : Sizes) (left : ℕ) (scale : Option ℕ) : Type 0 where
-  pub prepared : Prepared width counts s sizes
+pub record Ready (width : Width) (s : View) (sizes : Sizes) (left : ℕ) (scale : Option ℕ) : Type 0 where
+  pub prepared : Prepared width s sizes
   pub in-plan : InPlan s left scale
 
 -- what a slot with so many left after it leaves: every queue, in the row of the values that begins at place `this` and in the row of the

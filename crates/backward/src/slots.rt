@@ -10,6 +10,7 @@ ghost use Prim.Native.Nat.{suc, _+_, _*_, _-_, _≤_, _<_};
 ghost use lib.ListN.{length};
 ghost use Rattle.model.specs.View.{viewOf};
 ghost use Rattle.model.specs.Plan.{valuePlaces, planNeeded};
+ghost use Rattle.counts.specs.Counts.{HoldsCounts};
 ghost use Rattle.layout.specs.Places.{placeIn};
 ghost use Rattle.buffers.specs.Fills.{Fills};
 ghost use Rattle.value.specs.Narrow.{width, valueOf};
@@ -56,10 +57,8 @@ fn slot_with(queues: usize, horizon: u32, left: u32, scale: Value) -> Slot
     }
 }
 
-// The first pass over the next slot's values: what is ahead of every queue after the slot, from the buffer's first place on. Every pass is
-// given the counts (Ready), but this one does not look at them: the lanes were worked out from them.
+// The first pass over the next slot's values: what is ahead of every queue after the slot, from the buffer's first place on.
 fn fill_ahead(
-    counts: &[u32; 2352],
     sheet: Sheet,
     sizes: Sizes,
     slot: Slot,
@@ -67,7 +66,7 @@ fn fill_ahead(
     ahead: &mut [u64],
     lanes: &[u32],
 )
-    requires { ⌜ Ready width (now counts) (viewOf sheet) sizes (slot .left) (valueOf (slot .scale)) ×
+    requires { ⌜ Ready width (viewOf sheet) sizes (slot .left) (valueOf (slot .scale)) ×
         ValueRow width (viewOf sheet) (slot .left) (slot .next) (now values) × (sizes .after * width .places ≤ length (now ahead)) ⌝ }
     requires lanes { ⌜ EntryTable (sizes .largest) (sizes .bound) (viewOf sheet) (now lanes) ⌝ }
     ensures { λ r. ⌜ Fills (width .places) (valueIn width) (λ i. aheadOf (viewOf sheet) (slot .left) (queueAfter (viewOf sheet) i))
@@ -76,9 +75,8 @@ fn fill_ahead(
     ahead::fill(sheet, sizes, lanes, slot.next, values, ahead);
 }
 
-// The second pass over what is ahead: the slot's row of values and its row of the plan. It does not look at the counts either.
+// The second pass over what is ahead: the slot's row of values and its row of the plan.
 fn fill_row(
-    counts: &[u32; 2352],
     sheet: Sheet,
     sizes: Sizes,
     slot: Slot,
@@ -87,7 +85,7 @@ fn fill_row(
     plan: &mut [u8],
     lanes: &[u32],
 )
-    requires { ⌜ Ready width (now counts) (viewOf sheet) sizes (slot .left) (valueOf (slot .scale)) ×
+    requires { ⌜ Ready width (viewOf sheet) sizes (slot .left) (valueOf (slot .scale)) ×
         AheadRow width (viewOf sheet) (slot .left) (now ahead) × ((slot .this + sizes .queues) * width .places ≤ length (now values)) ×
         (slot .row + sizes .queues ≤ length (now plan)) ⌝ }
     requires lanes { ⌜ SpeedTable (sizes .largest) (sizes .bound) (viewOf sheet) (now lanes) ⌝ }
@@ -109,7 +107,6 @@ fn fill_row(
 
 // One slot: both passes.
 fn fill_slot(
-    counts: &[u32; 2352],
     sheet: Sheet,
     sizes: Sizes,
     slot: Slot,
@@ -119,7 +116,7 @@ fn fill_slot(
     entry_lanes: &[u32],
     speed_lanes: &[u32],
 )
-    requires { ⌜ Ready width (now counts) (viewOf sheet) sizes (slot .left) (valueOf (slot .scale)) ×
+    requires { ⌜ Ready width (viewOf sheet) sizes (slot .left) (valueOf (slot .scale)) ×
         ValueRow width (viewOf sheet) (slot .left) (slot .next) (now values) × (sizes .after * width .places ≤ length (now ahead)) ×
         ((slot .this + sizes .queues) * width .places ≤ length (now values)) × (slot .row + sizes .queues ≤ length (now plan)) ⌝ }
     requires lanes { ⌜ EntryTable (sizes .largest) (sizes .bound) (viewOf sheet) (now «entry_lanes») ×
@@ -127,14 +124,13 @@ fn fill_slot(
     ensures { λ r. ⌜ Planned width (viewOf sheet) (slot .left) (slot .this) (slot .row)
         (now (values .entry)) (now (plan .entry)) (now (values .exit)) (now (plan .exit)) ⌝ }
 {
-    fill_ahead(counts, sheet, sizes, slot, values, ahead, entry_lanes);
-    fill_row(counts, sheet, sizes, slot, ahead, values, plan, speed_lanes);
+    fill_ahead(sheet, sizes, slot, values, ahead, entry_lanes);
+    fill_row(sheet, sizes, slot, ahead, values, plan, speed_lanes);
 }
 
 // Every slot, the last one first. What is ahead stands in an array of its own, one place for each queue after a slot: at most 7,084 of them
 // where there are at most 65,535 queues. (So a slot's row could even be written over the next slot's.)
 fn fill_slots(
-    counts: &[u32; 2352],
     sheet: Sheet,
     sizes: Sizes,
     values: &mut [u64],
@@ -142,7 +138,7 @@ fn fill_slots(
     entry_lanes: &[u32],
     speed_lanes: &[u32],
 )
-    requires { ⌜ Prepared width (now counts) (viewOf sheet) sizes × (planNeeded (viewOf sheet) ≤ length (now plan)) ×
+    requires { ⌜ Prepared width (viewOf sheet) sizes × (planNeeded (viewOf sheet) ≤ length (now plan)) ×
         (valuePlaces width (viewOf sheet) ≤ length (now values)) ×
         PlannedFrom width (viewOf sheet) 0 (now values) (now plan) (now values) (now plan) ⌝ }
     requires lanes { ⌜ EntryTable (sizes .largest) (sizes .bound) (viewOf sheet) (now «entry_lanes») ×
@@ -158,7 +154,6 @@ fn fill_slots(
         let next_scale = value::add(value::of(0), weight_sum, scale);
         let slot = slot_with(sizes.queues, sheet.horizon, left, next_scale);
         fill_slot(
-            counts,
             sheet,
             sizes,
             slot,
@@ -176,7 +171,7 @@ fn fill_slots(
 // The end row and every slot. The lanes are the same for every slot, and are worked out once: for the entries two columns of 32 places and
 // a line for each of at most 969 blocks, for the speeds two columns of 9 places and a line for each of at most 7,084.
 pub fn fill(counts: &[u32; 2352], sheet: Sheet, sizes: Sizes, values: &mut [u64], plan: &mut [u8])
-    requires { ⌜ Prepared width (now counts) (viewOf sheet) sizes × (planNeeded (viewOf sheet) ≤ length (now plan)) ×
+    requires { ⌜ HoldsCounts (now counts) × Prepared width (viewOf sheet) sizes × (planNeeded (viewOf sheet) ≤ length (now plan)) ×
         (valuePlaces width (viewOf sheet) ≤ length (now values)) ⌝ }
     ensures { λ r. ⌜ PlannedFrom width (viewOf sheet) (sheet .horizon)
         (now (values .entry)) (now (plan .entry)) (now (values .exit)) (now (plan .exit)) ⌝ }
@@ -186,13 +181,5 @@ pub fn fill(counts: &[u32; 2352], sheet: Sheet, sizes: Sizes, values: &mut [u64]
     entry_lanes::fill_table(counts, sheet, sizes, &mut entry_lanes);
     speed_lanes::fill_table(counts, sheet, sizes, &mut speed_lanes);
     fill_end(sizes.queues, place(sizes.queues, sheet.horizon, 0), values);
-    fill_slots(
-        counts,
-        sheet,
-        sizes,
-        values,
-        plan,
-        &entry_lanes,
-        &speed_lanes,
-    );
+    fill_slots(sheet, sizes, values, plan, &entry_lanes, &speed_lanes);
 }

@@ -16,11 +16,11 @@ use Rattle.backward.proofs.slots.fill.Tie as tie
 
 -- the sheet is accepted
 right : (c : tie.Start) → Accepted (width .limit) (viewOf (c .args .sheet))
-right c = accepted (viewOf (c .args .sheet)) (c .pre .0 .accepted)
+right c = accepted (viewOf (c .args .sheet)) (c .pre .1 .accepted)
 
 -- and its sizes are in range
 sized : (c : tie.Start) → Measured (c .args .sizes)
-sized c = measured (viewOf (c .args .sheet)) (c .args .sizes) (right c) (c .pre .0 .sized)
+sized c = measured (viewOf (c .args .sheet)) (c .args .sizes) (right c) (c .pre .1 .sized)
 
 slice-aggregate-fill-table : tie.Need-slice-aggregate-fill-table
 slice-aggregate-fill-table c = refl
@@ -28,9 +28,9 @@ slice-aggregate-fill-table c = refl
 fill-table-requires : tie.Need-fill-table-requires
 fill-table-requires c κs =
     let start = c .before .before .before in (
-      start .pre .0 .holds,
+      start .pre .0,
       sized start,
-      fields-right (width .limit) (viewOf (start .args .sheet)) (start .pre .0 .accepted),
+      fields-right (width .limit) (viewOf (start .args .sheet)) (start .pre .1 .accepted),
       entry-lines-room (sized start) (viewOf (start .args .sheet) .jobCount) (right start .ranged .jobs-high),
     )
 
@@ -41,25 +41,25 @@ fill-table-requires-2 : tie.Need-fill-table-requires-2
 fill-table-requires-2 c κs =
     let start = c .before .before .before .before .before .before in
     let s = viewOf (start .args .sheet) in (
-      start .pre .0 .holds,
+      start .pre .0,
       sized start,
-      fields-right (width .limit) s (start .pre .0 .accepted),
+      fields-right (width .limit) s (start .pre .1 .accepted),
       lines-room (sized start) (s .speedCount)
-          (omega (arith, speeds-few s (right start .ranged .rises), start .pre .0 .sized .largest-is)),
+          (omega (arith, speeds-few s (right start .ranged .rises), start .pre .1 .sized .largest-is)),
     )
 
 place-requires : tie.Need-place-requires
 place-requires c κs =
     let start = c .before .before .before .before .before .before .before .before in
-    let small = sizes-small (viewOf (start .args .sheet)) (right start) (start .pre .0 .sized) in
+    let small = sizes-small (viewOf (start .args .sheet)) (right start) (start .pre .1 .sized) in
     (small .0, omega (arith, small .1), omega arith)
 
 fill-end-requires : tie.Need-fill-end-requires
 fill-end-requires c κs =
     let placed = c .before in
     let start = placed .before .before .before .before .before .before .before .before .before in
-    end-room width (viewOf (start .args .sheet)) (start .pre .0 .sized)
-    (placed .place .ensures) (start .args .values .now) (start .pre .2)
+    end-room width (viewOf (start .args .sheet)) (start .pre .1 .sized)
+    (placed .place .ensures) (start .args .values .now) (start .pre .3)
 
 slice-aggregate-fill-slots : tie.Need-slice-aggregate-fill-slots
 slice-aggregate-fill-slots c =
@@ -79,10 +79,10 @@ fill-slots-requires c κs =
     let first = second .before .before .before in
     let start = first .before .before .before .before in (
       (
-        start .pre .0,
         start .pre .1,
-        omega (arith, start .pre .2, ended .fill-end .ensures .same-length),
-        planned-none width (viewOf (start .args .sheet)) (start .pre .0 .sized)
+        start .pre .2,
+        omega (arith, start .pre .3, ended .fill-end .ensures .same-length),
+        planned-none width (viewOf (start .args .sheet)) (start .pre .1 .sized)
             (placed .place .ensures) (ended .fill-end .ensures) (start .args .plan .now),
       ),
       (first .fill-table .ensures, second .fill-table2 .ensures),
@@ -100,7 +100,7 @@ returns c =
     let ended = called .before .before .before .before .before .before .before in
     let placed = ended .before .before in
     let start = placed .before .before .before .before .before .before .before .before .before in
-    planned-since width (viewOf (start .args .sheet)) (start .pre .0 .sized)
+    planned-since width (viewOf (start .args .sheet)) (start .pre .1 .sized)
     (placed .place .ensures) (ended .fill-end .ensures) (start .args .sheet .horizon) (called .fill-slots .ensures)
 
 pub fill-spec : {M : Type 1} → statement M

@@ -18,12 +18,12 @@ use Rattle.backward.proofs.slots.fill_slots.Statement.{statement}
 use Rattle.backward.proofs.slots.fill_slots.Tie as tie
 
 abbrev Inv-loop : tie.InvT-loop
-Inv-loop counts sheet sizes values₀ plan₀ entry-lanes speed-lanes ahead₀ all scale₀ left₀ values plan ahead scale left =
+Inv-loop sheet sizes values₀ plan₀ entry-lanes speed-lanes ahead₀ all scale₀ left₀ values plan ahead scale left =
     (left ≤ sheet .horizon) × (length ahead ≡ 7084) × (valueOf scale ≡ some (W (viewOf sheet) ^ left)) ×
     PlannedFrom width (viewOf sheet) left values₀ plan₀ values plan
 
 abbrev μ-loop : tie.MeasureT-loop
-μ-loop counts sheet sizes values₀ plan₀ entry-lanes speed-lanes ahead₀ all scale₀ left₀ values plan ahead scale left = sheet .horizon - left
+μ-loop sheet sizes values₀ plan₀ entry-lanes speed-lanes ahead₀ all scale₀ left₀ values plan ahead scale left = sheet .horizon - left
 
 -- the sheet, as a turn of the loop knows it
 abbrev sheetIn : tie.At-loop Inv-loop μ-loop → View
@@ -129,7 +129,7 @@ loop-again c =
     let s = sheetIn turn in
     let k = turn .loop .left in (
       omega arith,
-      called .fill-slot .kept .1 .1 .1 .1 .0 ∙ turn .loop .inv .1,
+      called .fill-slot .kept .1 .1 .1 .0 ∙ turn .loop .inv .1,
       scaled (made .before) ∙ ap (λ n. some (W s ^ n)) (sym (add-one k)),
       planned-more width s k (rows-at made) (turn .loop .inv .3) (called .fill-slot .ensures),
     )

@@ -63,7 +63,8 @@ fill-requires : tie.Need-fill-requires
 fill-requires c κs =
     let sizes = c .before .before .before in
     let told = sizes .before .before in (
-      record { holds = told .before .before .before .table .ensures; accepted = sheet-right told; sized = sizes .sizes-of .ensures },
+      told .before .before .before .table .ensures,
+      record { accepted = sheet-right told; sized = sizes .sizes-of .ensures },
       plan-accepted (sheet told) width _ _ (passed told) .2,
       values-fit told,
     )
