@@ -13,7 +13,9 @@ use lib.Seq.{ext-getD, getD-set-same, getD-set-other}
 use Rattle.model.specs.Queue.{Queue, total, queueIn, placesOf, bearable, queueCount}
 use Rattle.model.proofs.Queues.{length-places, total-places, total-past, listed-bearable}
 use Rattle.queues.specs.Blocks.{queueWith, firstOf, lowestOf}
-use Rattle.queues.specs.Order.{Ranges, Numbered}
+use Rattle.queues.specs.Order.{Numbered}
+use Rattle.sheets.specs.Sizes.{Measured}
+use Rattle.sheets.specs.declared.sizes.Sizes.{Sizes}
 use Rattle.slot.specs.Slot.{lastTwice}
 use Rattle.queues.proofs.Blocks.{first-queue}
 use Rattle.slot.proofs.Places.{total-in, positions-in}
@@ -56,19 +58,25 @@ last-in (suc d) places low =
     let same : d ≡ suc d - 1 = omega arith in
     total-in (suc d) places (suc d) (le-refl (suc d)) ∙ ap (λ (k : ℕ). getD places k 0) same
 
--- so what stands in them is the first queue of the block, which has a number, and its last total is the lowest
-module _ (M d b : ℕ) (low : 1 ≤ d) (r : Ranges M d) (h : b < queueCount M (pred d)) {queue : List ℕ}
-    (e : queue ≡ placesOf (lastTwice (queueWith M (pred d) b))) where
-  pub first-in : queueIn d queue ≡ firstOf M d b
-  first-in =
-      ap (queueIn d) e ∙
-      positions-in d (lastTwice (queueWith M (pred d) b)) (r .bound-high)
-      (omega (arith, length-twice (queueWith M (pred d) b), listed-bearable M (pred d) b h .0))
+-- the first queue of block b stands in these places, has a number, and its last total is the lowest
+pub record FirstIn (M d b : ℕ) (queue : List ℕ) : Type 0 where
+  pub first-is : queueIn d queue ≡ firstOf M d b
+  pub numbered : Numbered M d queue
+  pub lowest-is : getD queue (d - 1) 0 ≡ lowestOf M d b
 
-  pub first-numbered : Numbered M d queue
-  first-numbered =
-      record { ranges = r; is-bearable = subst (λ (q : Queue). T (bearable M q)) (sym first-in) (first-queue M d b low h .1) }
-
-  pub lowest-in : getD queue (d - 1) 0 ≡ lowestOf M d b
-  lowest-in =
-      sym (last-in d queue low) ∙ ap (λ (q : Queue). total q d) first-in ∙ first-queue M d b low h .2
+-- it does in those that `first_queue` answers
+pub first-in : {sizes : Sizes} {b : ℕ} {queue : List ℕ} → Measured sizes → b < sizes .after →
+    queue ≡ placesOf (lastTwice (queueWith (sizes .largest) (pred (sizes .bound)) b)) → FirstIn (sizes .largest) (sizes .bound) b queue
+first-in {sizes} {b} {queue} m h e =
+    let M = sizes .largest in
+    let D = sizes .bound in
+    let v = queueWith M (pred D) b in
+    let block : b < queueCount M (pred D) = omega (arith, m .after-is) in
+    let first = first-queue M D b (m .bound-low) block in
+    let long : D ≤ length (lastTwice v) = omega (arith, length-twice v, listed-bearable M (pred D) b block .0) in
+    let here : queueIn D queue ≡ firstOf M D b = ap (queueIn D) e ∙ positions-in D (lastTwice v) (m .ranges .bound-high) long in
+    record {
+      first-is = here;
+      numbered = record { ranges = m .ranges; is-bearable = rw here (first .1) };
+      lowest-is = sym (last-in D queue (m .bound-low)) ∙ ap (λ (q : Queue). total q D) here ∙ first .2;
+    }
