@@ -5,9 +5,9 @@ use native.Mathlib.Omega.{arith}
 use borrow.Author.Needs.{needs}
 use Rattle.model.specs.Queue.{placesOf, queueCount}
 use Rattle.queues.specs.Blocks.{firstOf}
-use Rattle.queues.specs.Order.{Ranges}
 use Rattle.slot.specs.Slot.{lastTwice}
-use Rattle.sheets.proofs.Measures.{ranges-fewer, one-fewer}
+use Rattle.sheets.proofs.Measures.{one-fewer}
+use Rattle.rows.proofs.Room.{ranges-before}
 use Rattle.entry_lanes.proofs.Firsts.{after-places}
 use Rattle.entry_lanes.proofs.table.first_after.Statement.{statement}
 use Rattle.entry_lanes.proofs.table.first_after.Tie as tie
@@ -24,7 +24,7 @@ first-queue-requires c κs =
     let start = c .before in
     let a = start .args in (
       start .pre .0,
-      subst (Ranges (a .sizes .largest)) (sym (one-fewer (a .sizes .bound))) (ranges-fewer (start .pre .1 .ranges)),
+      ranges-before (start .pre .1),
       subst (λ (d : ℕ). a .block < queueCount (a .sizes .largest) (pred d)) (sym (one-fewer (a .sizes .bound))) (block start),
     )
 

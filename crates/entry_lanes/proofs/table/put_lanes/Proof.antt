@@ -1,10 +1,9 @@
 -- `put_lanes` meets its contract. The loop's invariant: the lanes of the entries passed stand there, and nothing else has changed.
 use Prim.Native.Nat.{_-_, _≤_}
-use mathlib.Core.Path.{_≡_, refl, sym, ap, _∙_, subst}
+use mathlib.Core.Path.{refl, ap, _∙_, subst}
 use native.Mathlib.Omega.{arith}
-use lib.ListN.{length}
 use Rattle.model.specs.View.{viewOf}
-use Rattle.model.specs.Queue.{queueIn, arrive}
+use Rattle.model.specs.Queue.{queueIn}
 use Rattle.model.specs.declared.Job.{Job}
 use Rattle.model.proofs.Refusal.{Ranged, ranged}
 use Rattle.limits.proofs.Places.{job-counts}
@@ -77,20 +76,14 @@ loop-less c = omega arith
 
 loop-again : tie.Need-loop-again Inv-loop μ-loop
 loop-again c =
-    let l = c .before .before .before .before in
+    let turn = c .before .before .before in
+    let l = turn .before in
     let start = l .before .before in
     let a = start .args in
-    let w = queueIn (a .sizes .bound) (a .queue) in
-    let six : length (a .queue) ≡ 6 = omega (arith, start .good) in (
+    let joined = joined-in (a .t2) (a .sizes .bound) (a .queue) (l .loop .place) (start .pre .1 .ranges .bound-high) (omega (arith, start .good))
+    (turn .loop-test .taken) (c .before .arrive .ensures) in (
       omega arith,
-      fills-more 1 numberAt number-local refl
-          (c .lane-of .ensures ∙
-          ap (laneOf (a .sizes .largest))
-          (joined-in (a .sizes .bound) (a .queue) _ _ (start .pre .1 .ranges .bound-high)
-          (omega (arith, start .pre .1 .ranges .bound-high, six)) (c .before .arrive .ensures) ∙
-          ap (λ (x : Job). arrive w (x .size) (x .deadline))
-          (sym (job-counts (a .t2) (l .loop .place) (c .before .before .before .loop-test .taken)))))
-          (l .loop .inv .1)
+      fills-more 1 numberAt number-local refl (c .lane-of .ensures ∙ ap (laneOf (a .sizes .largest)) joined) (l .loop .inv .1)
           (number-stored (l .loop .lanes) _ _ (omega (arith, l .loop .inv .1 .same-length, start .pre .4))),
     )
 
