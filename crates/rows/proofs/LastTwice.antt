@@ -1,17 +1,12 @@
 -- The first queue of a block, in its six places: a queue of one position fewer, and behind it its last total once more.
 use Prim.Native.Nat.{ℕ, zero, suc, pred, _-_, _≤_, _<_}
-use mathlib.Core.Path.{_≡_, refl, sym, ap, _∙_, subst}
-use mathlib.Core.Bool.{Bool, true, false}
-use mathlib.Core.List.{List}
-use mathlib.Core.Logic.{_⊎_, inl, inr}
-use native.Mathlib.Nat.{eq-or-lt-of-le, le-refl, not-suc-le-zero}
+use mathlib.Core.Path.{_≡_, sym, ap, _∙_}
+use mathlib.Core.List.{List, [], _∷_}
+use native.Mathlib.Nat.{le-refl, not-suc-le-zero}
 use native.Mathlib.Omega.{arith}
-use borrow.Author.Tests.{ltb-true, ltb-false}
-use lib.Dec.{T, ltb}
-use lib.ListN.{length, getD, set, length-set}
-use lib.Seq.{ext-getD, getD-set-same, getD-set-other}
-use Rattle.model.specs.Queue.{Queue, total, queueIn, placesOf, bearable, queueCount}
-use Rattle.model.proofs.Queues.{length-places, total-places, total-past, listed-bearable}
+use lib.ListN.{length, getD, set}
+use Rattle.model.specs.Queue.{Queue, total, queueIn, placesOf, queueCount}
+use Rattle.model.proofs.Queues.{listed-bearable}
 use Rattle.queues.specs.Blocks.{queueWith, firstOf, lowestOf}
 use Rattle.queues.specs.Order.{Numbered}
 use Rattle.sheets.specs.Sizes.{Measured}
@@ -19,37 +14,18 @@ use Rattle.sheets.specs.declared.sizes.Sizes.{Sizes}
 use Rattle.slot.specs.Slot.{lastTwice}
 use Rattle.queues.proofs.Blocks.{first-queue}
 use Rattle.slot.proofs.Places.{total-in, positions-in}
-use Rattle.slot.proofs.Slots.{length-twice, total-twice, last-twice}
+use Rattle.slot.proofs.Slots.{length-twice}
 
+-- a queue of at most five positions, in its places, and its last total written behind it
 pub twice-places : (d : ℕ) (v : Queue) {places : List ℕ} {last : ℕ} → d ≤ 5 → length v ≡ d → places ≡ placesOf v → last ≡ total places d →
     set places d last ≡ placesOf (lastTwice v)
-twice-places d v {places} {last} few long e here =
-    ext-getD 0 (set places d last) (placesOf (lastTwice v)) (length-set places d last ∙ six ∙ sym (length-places (lastTwice v)))
-    (λ i h. let l : i < 6 = omega (arith, length-set places d last, six) in
-    each i l (ltb i d) refl ∙ sym (total-places (lastTwice v) (suc i) l))
-  where
-    six : length places ≡ 6
-    six = ap (λ (l : List ℕ). length l) e ∙ length-places v
-
-    was : (i : ℕ) → i < 6 → getD places i 0 ≡ total v (suc i)
-    was i l = ap (λ (p : List ℕ). getD p i 0) e ∙ total-places v (suc i) l
-
-    same : last ≡ total v d
-    same = here ∙ ap (λ (p : List ℕ). total p d) e ∙ total-places v d (omega arith)
-
-    behind : (i : ℕ) → i < 6 → (d ≡ i) ⊎ (d < i) → getD (set places d last) i 0 ≡ total (lastTwice v) (suc i)
-    behind i l (inl q) =
-        ap (λ (j : ℕ). getD (set places d last) j 0) (sym q) ∙ getD-set-same places d last 0 (omega (arith, six)) ∙ same ∙
-        ap (total v) (sym long) ∙ sym (last-twice v) ∙ ap (λ (j : ℕ). total (lastTwice v) (suc j)) (long ∙ q)
-    behind i l (inr k) =
-        getD-set-other places d i last 0 (λ q. omega arith) ∙ was i l ∙ total-past v (suc i) (omega arith) ∙
-        sym (total-past (lastTwice v) (suc i) (omega (arith, length-twice v)))
-
-    each : (i : ℕ) → i < 6 → (b : Bool) → ltb i d ≡ b → getD (set places d last) i 0 ≡ total (lastTwice v) (suc i)
-    each i l true t =
-        let low = ltb-true i d t in
-        getD-set-other places d i last 0 (λ q. omega arith) ∙ was i l ∙ sym (total-twice v (suc i) (omega arith))
-    each i l false t = behind i l (eq-or-lt-of-le (ltb-false i d t))
+twice-places d [] few long e here = rw (here, ← long, e)
+twice-places d (p ∷ []) few long e here = rw (here, ← long, e)
+twice-places d (p ∷ q ∷ []) few long e here = rw (here, ← long, e)
+twice-places d (p ∷ q ∷ r ∷ []) few long e here = rw (here, ← long, e)
+twice-places d (p ∷ q ∷ r ∷ s ∷ []) few long e here = rw (here, ← long, e)
+twice-places d (p ∷ q ∷ r ∷ s ∷ t ∷ []) few long e here = rw (here, ← long, e)
+twice-places d (p ∷ q ∷ r ∷ s ∷ t ∷ u ∷ v) few long e here = absurd (omega arith)
 
 -- the last total of a queue stands in the last of its places
 pub last-in : (d : ℕ) (places : List ℕ) → 1 ≤ d → total (queueIn d places) d ≡ getD places (d - 1) 0

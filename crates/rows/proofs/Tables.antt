@@ -1,7 +1,7 @@
 -- Laws of tables (specs/Tables.antt): one number more in each column, and one line more; what is written behind leaves what stands before
 -- as it is.
 use Prim.Native.Nat.{ℕ, suc, _+_, _*_, _≤_, _<_}
-use mathlib.Core.Path.{_≡_, refl, sym, ap, _∙_, subst}
+use mathlib.Core.Path.{_≡_, refl, sym, ap, _∙_}
 use mathlib.Core.List.{List}
 use mathlib.Core.Logic.{inl}
 use native.Mathlib.Nat.{add-zero, suc-mul, mul-le-mul-right, not-suc-le-zero}
@@ -42,6 +42,10 @@ columns-more c place a b l low room f g e d so-far =
     kept : (p : ℕ) → (p ≡ place → ⊥) → (p ≡ c + place → ⊥) → getD l₂ p 0 ≡ getD l p 0
     kept p first second = getD-set-other l₁ (c + place) p b 0 second ∙ getD-set-other l place p a 0 first
 
+-- as many places are filled as there are
+pub columns-all : {c place all : ℕ} {f g : ℕ → ℕ} {l : List ℕ} → place ≡ all → Columns c place f g l → Columns c all f g l
+columns-all e columns = rw (← e) columns
+
 -- a line
 
 -- its first three numbers stored
@@ -74,8 +78,8 @@ line-within c n b blocks h room = omega (arith, mul-le-mul-right (n + 3) h, suc-
 -- the lines
 
 -- none is put yet, in a table that has room for all
-pub put-none : (c n blocks : ℕ) (line : ℕ → ℕ → ℕ) {l : List ℕ} → lineAt c n blocks ≤ length l → LinesPut c n 0 line l l
-put-none c n blocks line room =
+pub put-none : (blocks : ℕ) {c n : ℕ} {line : ℕ → ℕ → ℕ} {l : List ℕ} → lineAt c n blocks ≤ length l → LinesPut c n 0 line l l
+put-none blocks room =
     record {
       same-length = refl;
       lines = record { room = omega arith; right = λ b i h k. absurd (not-suc-le-zero h) };
@@ -83,9 +87,9 @@ put-none c n blocks line room =
     }
 
 -- one more is put, and leaves the columns and the lines before it
-pub put-more : (c n b blocks : ℕ) (line : ℕ → ℕ → ℕ) {l₀ l l′ : List ℕ} → b < blocks → lineAt c n blocks ≤ length l₀ →
+pub put-more : (blocks : ℕ) {c n b : ℕ} {line : ℕ → ℕ → ℕ} {l₀ l l′ : List ℕ} → b < blocks → lineAt c n blocks ≤ length l₀ →
     Fills 1 numberAt (line b) (lineAt c n b) (n + 3) l l′ → LinesPut c n b line l₀ l → LinesPut c n (b + 1) line l₀ l′
-put-more c n b blocks line {l′ = l′} low room fill so-far =
+put-more blocks {c} {n} {b} {line} {l′ = l′} low room fill so-far =
     record {
       same-length = fill .same-length ∙ so-far .same-length;
       lines =
@@ -102,19 +106,19 @@ put-more c n b blocks line {l′ = l′} low room fill so-far =
         fill .outside (lineAt c n k + i) (inl (omega arith)) ∙ so-far .lines .right k i h j
 
 -- as many are put as there are
-pub put-all : (c n : ℕ) {blocks all : ℕ} (line : ℕ → ℕ → ℕ) {l₀ l : List ℕ} → blocks ≡ all → LinesPut c n blocks line l₀ l →
+pub put-all : {c n blocks all : ℕ} {line : ℕ → ℕ → ℕ} {l₀ l : List ℕ} → blocks ≡ all → LinesPut c n blocks line l₀ l →
     LinesPut c n all line l₀ l
-put-all c n line {l₀} {l} e = subst (λ (k : ℕ). LinesPut c n k line l₀ l) e
+put-all e put = rw (← e) put
 
 -- the columns, and behind them the lines of all blocks, are the table
-pub table-whole : (c n : ℕ) {blocks all : ℕ} {f g : ℕ → ℕ} {line : ℕ → ℕ → ℕ} {l l′ : List ℕ} → n ≤ c → blocks ≡ all → Columns c n f g l →
+pub table-whole : {c n blocks all : ℕ} {f g : ℕ → ℕ} {line : ℕ → ℕ → ℕ} {l l′ : List ℕ} → n ≤ c → blocks ≡ all → Columns c n f g l →
     LinesPut c n blocks line l l′ → Table c n all f g line l′
-table-whole c n {line = line} few e columns put =
+table-whole {c} few e columns put =
     record {
       columns =
           record {
             firsts = λ j h. put .columns-same j (omega arith) ∙ columns .firsts j h;
             seconds = λ j h. put .columns-same (c + j) (omega arith) ∙ columns .seconds j h;
           };
-      lines = put-all c n line e put .lines;
+      lines = put-all e put .lines;
     }

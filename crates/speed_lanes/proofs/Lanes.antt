@@ -5,7 +5,7 @@ use Prim.Native.Nat.{ℕ, zero, suc, min, max, _+_, _-_, _*_, _≤_, _<_}
 use mathlib.Core.Path.{_≡_, refl, sym, ap, _∙_, subst}
 use mathlib.Core.Bool.{Bool, false, cond, _&&_}
 use mathlib.Core.List.{List}
-use mathlib.Core.Logic.{_⊎_, inl, inr}
+use mathlib.Core.Logic.{⊎-elim}
 use native.Mathlib.Nat.{not-suc-le-zero, eq-or-lt-of-le, le-refl}
 use native.Mathlib.Omega.{arith}
 use borrow.Author.Tests.{le-leb, lt-leb}
@@ -13,8 +13,8 @@ use lib.Dec.{T, leb, leb→le, le→leb}
 use lib.ListN.{length}
 use Rattle.model.specs.Queue.{Queue, total, NeverFalls, NoLonger, queueIn, placesOf, bearable, numberOf, run}
 use Rattle.laws.proofs.Longer.{no-longer-by, run-never-falls, bearable-carries}
-use Rattle.model.proofs.Queues.{length-run, total-run, length-in, bearable-at}
-use Rattle.model.proofs.Tests.{and-left, and-right, and-both, same-test, holds-true}
+use Rattle.model.proofs.Queues.{length-run, total-run, length-in, bearable-at, bearable-upto}
+use Rattle.model.proofs.Tests.{and-left, and-right, and-both, fails-false, holds-true}
 use Rattle.queues.specs.Blocks.{Alike}
 use Rattle.queues.proofs.Blocks.{number-last, bearable-with}
 use Rattle.slot.proofs.Places.{total-in, positions-in}
@@ -101,23 +101,18 @@ leads-carries M (suc d) v w s s′ low e f never n h t =
 
 -- the first queue is nowhere longer than a later one
 alike-no-longer : (D : ℕ) (v w : Queue) → Alike D v w → total v D ≤ total w D → NoLonger v w
-alike-no-longer D v w a h = no-longer-by v w (a .long ∙ sym (a .long-too)) (λ i l. each i (eq-or-lt-of-le (inside i l)))
-  where
-    inside : (i : ℕ) → i < length v → suc i ≤ D
-    inside i l = omega (arith, a .long)
-
-    each : (i : ℕ) → (suc i ≡ D) ⊎ (suc i < D) → total v (suc i) ≤ total w (suc i)
-    each i (inl q) = omega (arith, ap (total v) q, ap (total w) q)
-    each i (inr l) = omega (arith, a .same (suc i) l)
+alike-no-longer D v w a h =
+    no-longer-by v w (a .long ∙ sym (a .long-too))
+    (λ i l. let inside : suc i ≤ D = omega (arith, a .long) in
+    ⊎-elim (λ e. omega (arith, ap (total v) e, ap (total w) e)) (λ k. omega (arith, a .same (suc i) k)) (eq-or-lt-of-le inside))
 
 -- a speed that does not lead on from the first queue does not from a later one
 pub leads-nowhere : (M D : ℕ) (v w : Queue) (s : ℕ) → 1 ≤ D → Alike D v w → T (bearable M v) → total v D ≤ total w D →
     leadsOn M D v s ≡ false → leadsOn M D w s ≡ false
 leads-nowhere M D v w s low a tv h e =
-    same-test (leadsOn M D w s) false
+    fails-false (leadsOn M D w s)
     (λ t. subst T e
     (leads-carries M D v w s s low (a .long) (a .long-too) (λ u l. bearable-at M v tv u l .0) (alike-no-longer D v w a h) (le-refl s) t))
-    (λ f. absurd f)
 
 -- after a slot two queues of a block are two of a block
 after-alike : (d : ℕ) (v w : Queue) (s : ℕ) → Alike (suc d) v w → Alike d (afterOf (suc d) v s) (afterOf (suc d) w s)
@@ -144,51 +139,25 @@ pub lane-says : (M D : ℕ) (v w : Queue) (s : ℕ) → 1 ≤ D → Alike D v w 
 lane-says M zero v w s low a h t = absurd (not-suc-le-zero low)
 lane-says M (suc zero) v w s low a h t =
     record {
-      goes = λ l. (leads-both M 1 w s (omega arith) there, ap (numberOf M) same ∙ omega (arith, lane-there M 1 v s t));
-      ends = λ l. same-test (leadsOn M 1 w s) false (λ k. omega (arith, leads-parts M 1 w s k .0)) (λ f. absurd f);
+      goes = λ l. (leads-both M 1 w s (omega arith) (leads-parts M 1 v s t .1), omega (arith, lane-there M 1 v s t));
+      ends = λ l. fails-false (leadsOn M 1 w s) (λ k. omega (arith, leads-parts M 1 w s k .0));
     }
-  where
-    same : afterOf 1 w s ≡ afterOf 1 v s
-    same = refl
-
-    there : T (bearable M (afterOf 1 w s))
-    there = leads-parts M 1 v s t .1
 lane-says M (suc (suc d)) v w s low a h t =
+    let D = suc (suc d) in
+    let v′ = afterOf D v s in
+    let w′ = afterOf D w s in
+    let next = after-alike (suc d) v w s a in
+    let parts = leads-parts M D v s t in
+    let first : total v′ (suc d) ≡ total v D - s = total-after (suc d) v s (suc d) (a .long) (omega arith) (omega arith) in
+    let last : total w′ (suc d) ≡ total w D - s = total-after (suc d) w s (suc d) (a .long-too) (omega arith) (omega arith) in
+    let longer : total v′ (suc d) ≤ total w′ (suc d) = omega arith in
     record {
       goes = λ l.
-          let tw = there l in (
-            leads-both M (suc (suc d)) w s (omega (arith, leads-parts M (suc (suc d)) v s t .0, a .same 1 (omega arith))) tw,
-            omega (
-              arith,
-              number-last M d (afterOf (suc (suc d)) v s) (afterOf (suc (suc d)) w s) next (leads-parts M (suc (suc d)) v s t .1) tw longer,
-              lane-there M (suc (suc d)) v s t,
-              first,
-              last,
-            ),
+          let there = bearable-with M (suc d) v′ w′ next (parts .1) longer (omega arith) in (
+            leads-both M D w s (omega (arith, parts .0, a .same 1 (omega arith))) there,
+            omega (arith, number-last M d v′ w′ next (parts .1) there longer, lane-there M D v s t),
           );
       ends = λ l.
-          same-test (leadsOn M (suc (suc d)) w s) false
-          (λ k. omega (
-            arith,
-            last,
-            bearable-at M (afterOf (suc (suc d)) w s) (leads-parts M (suc (suc d)) w s k .1) d (omega (arith, next .long-too)) .1,
-          ))
-          (λ f. absurd f);
+          fails-false (leadsOn M D w s)
+          (λ k. omega (arith, bearable-upto M w′ (leads-parts M D w s k .1) (suc d) (omega (arith, next .long-too))));
     }
-  where
-    next : Alike (suc d) (afterOf (suc (suc d)) v s) (afterOf (suc (suc d)) w s)
-    next = after-alike (suc d) v w s a
-
-    first : total (afterOf (suc (suc d)) v s) (suc d) ≡ total v (suc (suc d)) - s
-    first = total-after (suc d) v s (suc d) (a .long) (omega arith) (omega arith)
-
-    last : total (afterOf (suc (suc d)) w s) (suc d) ≡ total w (suc (suc d)) - s
-    last = total-after (suc d) w s (suc d) (a .long-too) (omega arith) (omega arith)
-
-    longer : total (afterOf (suc (suc d)) v s) (suc d) ≤ total (afterOf (suc (suc d)) w s) (suc d)
-    longer = omega (arith, first, last)
-
-    there : total w (suc (suc d)) ≤ suc d * M + s → T (bearable M (afterOf (suc (suc d)) w s))
-    there l =
-        bearable-with M (suc d) (afterOf (suc (suc d)) v s) (afterOf (suc (suc d)) w s) next (leads-parts M (suc (suc d)) v s t .1) longer
-        (omega (arith, last))

@@ -1,6 +1,6 @@
 -- `fill_entries` meets its contract. The loop's invariant: the weights of the entries passed, and how much each lifts, stand in the columns.
-use Prim.Native.Nat.{ℕ, _-_, _≤_}
-use mathlib.Core.Path.{_≡_, refl, sym, ap, _∙_, subst}
+use Prim.Native.Nat.{_-_, _≤_}
+use mathlib.Core.Path.{_≡_, refl, sym, ap, _∙_}
 use native.Mathlib.Omega.{arith}
 use lib.ListN.{length}
 use Rattle.model.specs.View.{viewOf, weightAt, sizeAt, deadlineAt}
@@ -8,7 +8,7 @@ use Rattle.model.specs.declared.Job.{Job}
 use Rattle.model.proofs.Refusal.{Ranged, ranged}
 use Rattle.limits.proofs.Places.{job-counts}
 use Rattle.rows.specs.Tables.{Columns}
-use Rattle.rows.proofs.Tables.{columns-none}
+use Rattle.rows.proofs.Tables.{columns-none, columns-all}
 use Rattle.entry_lanes.specs.Lanes.{liftOf}
 use Rattle.entry_lanes.proofs.table.fill_entries.Statement.{statement}
 use Rattle.entry_lanes.proofs.table.fill_entries.Tie as tie
@@ -73,12 +73,7 @@ same-length : tie.Need-same-length Inv-loop μ-loop
 same-length c = c .before .loop .inv .1
 
 returns : tie.Need-returns Inv-loop μ-loop
-returns c =
-    let l = c .before .loop in
-    let a = c .before .before .before .args in
-    let s = viewOf (a .t1) in
-    let all : l .place ≡ a .t1 .«job_count» = omega arith in
-    subst (λ (n : ℕ). Columns 32 n (weightAt s) (λ j. liftOf (a .bound) (sizeAt s j) (deadlineAt s j)) (l .lanes)) all (l .inv .2)
+returns c = columns-all (omega arith) (c .before .loop .inv .2)
 
 pub fill-entries-spec : {M : Type 1} → statement M
 fill-entries-spec =

@@ -19,7 +19,7 @@ returns : tie.Need-returns
 returns c =
     let start = c .before .before .before .before .before .before .before .before .before in
     let s = viewOf (start .args .sheet) in
-    table-whole 32 (s .jobCount) (ranged s (start .pre .2) .jobs-high) (start .pre .1 .blocks-is)
+    table-whole (ranged s (start .pre .2) .jobs-high) (start .pre .1 .blocks-is)
     (c .before .before .before .before .before .before .fill-entries .ensures) (c .before .before .fill-lines .ensures)
 
 pub fill-table-spec : {M : Type 1} → statement M

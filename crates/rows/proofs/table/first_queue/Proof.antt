@@ -1,12 +1,11 @@
 -- `first_queue` meets its contract: the queue of one position fewer, and its last total written behind it.
-use mathlib.Core.Path.{sym, ap, _∙_, subst}
+use mathlib.Core.Path.{ap, _∙_}
 use Prim.Native.Nat.{ℕ, _<_}
 use native.Mathlib.Omega.{arith}
 use borrow.Author.Needs.{needs}
 use Rattle.model.specs.Queue.{placesOf, queueCount}
 use Rattle.model.proofs.Queues.{listed-bearable}
 use Rattle.queues.specs.Blocks.{queueWith}
-use Rattle.queues.specs.Order.{Ranges}
 use Rattle.slot.specs.Slot.{lastTwice}
 use Rattle.rows.proofs.LastTwice.{twice-places}
 use Rattle.sheets.proofs.Measures.{ranges-fewer}
@@ -18,11 +17,10 @@ one-fewer-requires c κs = search needs
 
 -- the block's number is one of a queue of so many positions as the code works out
 within : (c : tie.After-one-fewer) → c .before .args .block < queueCount (c .before .args .largest) (c .one-fewer .result)
-within c = subst (λ (d : ℕ). c .before .args .block < queueCount (c .before .args .largest) d) (sym (c .one-fewer .ensures)) (c .before .pre .2)
+within c = rw (c .one-fewer .ensures) (c .before .pre .2)
 
 queue-at-requires : tie.Need-queue-at-requires
-queue-at-requires c κs =
-    (c .before .pre .0, subst (Ranges (c .before .args .largest)) (sym (c .one-fewer .ensures)) (ranges-fewer (c .before .pre .1)), within c)
+queue-at-requires c κs = (c .before .pre .0, rw (c .one-fewer .ensures) (ranges-fewer (c .before .pre .1)), within c)
 
 total-requires : tie.Need-total-requires
 total-requires c κs = search needs

@@ -1,6 +1,6 @@
 -- `fill_speeds` meets its contract. The loop's invariant: the speeds passed and their energies stand in the columns.
-use Prim.Native.Nat.{ℕ, _-_, _≤_}
-use mathlib.Core.Path.{_≡_, refl, ap, _∙_, subst}
+use Prim.Native.Nat.{_-_, _≤_}
+use mathlib.Core.Path.{_≡_, refl, ap, _∙_}
 use native.Mathlib.Omega.{arith}
 use lib.ListN.{length}
 use Rattle.model.specs.View.{viewOf, speedAt, energyAt}
@@ -8,7 +8,7 @@ use Rattle.model.specs.declared.Speed.{Speed}
 use Rattle.model.proofs.Refusal.{Ranged, ranged}
 use Rattle.limits.proofs.Places.{speed-counts}
 use Rattle.rows.specs.Tables.{Columns}
-use Rattle.rows.proofs.Tables.{columns-none}
+use Rattle.rows.proofs.Tables.{columns-none, columns-all}
 use Rattle.speed_lanes.proofs.table.fill_speeds.Statement.{statement}
 use Rattle.speed_lanes.proofs.table.fill_speeds.Tie as tie
 
@@ -67,11 +67,7 @@ same-length : tie.Need-same-length Inv-loop μ-loop
 same-length c = c .before .loop .inv .1
 
 returns : tie.Need-returns Inv-loop μ-loop
-returns c =
-    let l = c .before .loop in
-    let a = c .before .before .before .args in
-    let all : l .place ≡ a .t1 .«speed_count» = omega arith in
-    subst (λ (n : ℕ). Columns 9 n (speedAt (viewOf (a .t1))) (energyAt (viewOf (a .t1))) (l .lanes)) all (l .inv .2)
+returns c = columns-all (omega arith) (c .before .loop .inv .2)
 
 pub fill-speeds-spec : {M : Type 1} → statement M
 fill-speeds-spec =

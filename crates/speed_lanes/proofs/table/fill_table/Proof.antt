@@ -19,7 +19,7 @@ returns : tie.Need-returns
 returns c =
     let start = c .before .before .before .before .before .before .before .before .before in
     let s = viewOf (start .args .sheet) in
-    table-whole 9 (s .speedCount) (ranged s (start .pre .2) .speeds-high) (start .pre .1 .after-is)
+    table-whole (ranged s (start .pre .2) .speeds-high) (start .pre .1 .after-is)
     (c .before .before .before .before .before .before .fill-speeds .ensures) (c .before .before .fill-lines .ensures)
 
 pub fill-table-spec : {M : Type 1} → statement M
