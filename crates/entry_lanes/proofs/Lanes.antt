@@ -17,6 +17,8 @@ use Rattle.laws.proofs.Longer.{no-longer-by, arrive-never-falls, bearable-carri
 use Rattle.model.proofs.Queues.{length-arrive, total-arrive, bearable-at, bearable-all, bearable-upto}
 use Rattle.model.proofs.Tests.{fails-false, holds-true}
 use Rattle.queues.specs.Blocks.{queueWith, firstOf, startOf, lowestOf, Alike, Shifted, risen}
+use Rattle.sheets.specs.Sizes.{Measured}
+use Rattle.sheets.specs.declared.sizes.Sizes.{Sizes}
 use Rattle.slot.specs.Slot.{lastTwice}
 use Rattle.queues.proofs.Blocks.{number-shift, risen-none, risen-less, block-place, block-alike, first-queue}
 use Rattle.slot.proofs.Places.{total-in}
@@ -173,10 +175,14 @@ lane-says M (suc (suc n)) b k c dl low h high =
 -- the steps for which every arrival leads to a bearable queue
 
 -- of no entries they are those of a block, as the code works them out
-pub steps-begun : (M D : ℕ) (s : View) (places : List ℕ) → 1 ≤ D → total (queueIn D places) D ≤ pred D * M →
-    (total places D ≤ D * M - M) × (D * M - M - total places D + 1 ≡ stepsTo M D s (queueIn D places) 0)
+pub steps-begun : (s : View) (places : List ℕ) {sizes : Sizes} {last : ℕ} → Measured sizes →
+    total (queueIn (sizes .bound) places) (sizes .bound) ≤ pred (sizes .bound) * sizes .largest → last ≡ total places (sizes .bound) →
+    let most = sizes .bound * sizes .largest - sizes .largest in
+    (last ≤ most) × (most - last + 1 ≡ stepsTo (sizes .largest) (sizes .bound) s (queueIn (sizes .bound) places) 0)
 unfolding stepsTo
-steps-begun M D s places low h = omega (arith, most-fewer M D low, total-in D places D (le-refl D))
+steps-begun s places {sizes} m h e =
+    let D = sizes .bound in
+    omega (arith, most-fewer (sizes .largest) D (m .bound-low), total-in D places D (le-refl D))
 
 module _ (M D : ℕ) (s : View) (v : Queue) where
   -- with one entry more

@@ -36,10 +36,10 @@ after-places D places s low few six e =
     ap (λ (n : ℕ). queueIn n (run (queueIn D places) s)) (one-fewer D)
 
 -- its totals are those of the next positions, less the speed
-total-after : (d : ℕ) (w : Queue) (s u : ℕ) → length w ≡ suc d → 1 ≤ u → u ≤ d → total (afterOf (suc d) w s) u ≡ total w (suc u) - s
-total-after d w s u e low h =
-    let next : min (suc u) (length w) ≡ suc u = omega arith in
-    total-in d (run w s) u h ∙ total-run w s u low (omega arith) ∙ ap (λ (k : ℕ). total w k - s) next
+total-after : (d : ℕ) (w : Queue) (s i : ℕ) → length w ≡ suc d → i < d → total (afterOf (suc d) w s) (suc i) ≡ total w (suc (suc i)) - s
+total-after d w s i e h =
+    let next : min (suc (suc i)) (length w) ≡ suc (suc i) = omega arith in
+    total-in d (run w s) (suc i) h ∙ total-run w s (suc i) (omega arith) (omega arith) ∙ ap (λ (k : ℕ). total w k - s) next
 
 -- it never falls
 after-never-falls : (d : ℕ) (w : Queue) (s : ℕ) → length w ≡ suc d → NeverFalls w → NeverFalls (afterOf (suc d) w s)
@@ -57,13 +57,8 @@ after-no-longer : (d : ℕ) (v w : Queue) (s s′ : ℕ) → length v ≡ suc d 
     NoLonger (afterOf (suc d) v s′) (afterOf (suc d) w s)
 after-no-longer d v w s s′ e f n h =
     no-longer-by (afterOf (suc d) v s′) (afterOf (suc d) w s) (length-after d v s′ e ∙ sym (length-after d w s f))
-    (λ i k. let l : suc i ≤ d = omega (arith, length-after d v s′ e) in
-    omega (
-      arith,
-      total-after d v s′ (suc i) e (omega arith) l,
-      total-after d w s (suc i) f (omega arith) l,
-      n (suc (suc i)),
-    ))
+    (λ i k. let l : i < d = omega (arith, length-after d v s′ e) in
+    omega (arith, total-after d v s′ i e l, total-after d w s i f l, n (suc (suc i))))
 
 -- a speed that leads on
 
@@ -122,12 +117,8 @@ after-alike d v w s a =
     each : (u : ℕ) → u < d → total (afterOf (suc d) v s) u ≡ total (afterOf (suc d) w s) u
     each zero h = refl
     each (suc i) h =
-        omega (
-          arith,
-          total-after d v s (suc i) (a .long) (omega arith) (omega arith),
-          total-after d w s (suc i) (a .long-too) (omega arith) (omega arith),
-          a .same (suc (suc i)) (omega arith),
-        )
+        let l : i < d = omega arith in
+        omega (arith, total-after d v s i (a .long) l, total-after d w s i (a .long-too) l, a .same (suc (suc i)) (omega arith))
 
 -- the number of the queue after the slot, where the speed leads on
 lane-there : (M D : ℕ) (v : Queue) (s : ℕ) → T (leadsOn M D v s) → laneOf M D v s ≡ numberOf M (afterOf D v s)
@@ -148,8 +139,8 @@ lane-says M (suc (suc d)) v w s low a h t =
     let w′ = afterOf D w s in
     let next = after-alike (suc d) v w s a in
     let parts = leads-parts M D v s t in
-    let first : total v′ (suc d) ≡ total v D - s = total-after (suc d) v s (suc d) (a .long) (omega arith) (omega arith) in
-    let last : total w′ (suc d) ≡ total w D - s = total-after (suc d) w s (suc d) (a .long-too) (omega arith) (omega arith) in
+    let first : total v′ (suc d) ≡ total v D - s = total-after (suc d) v s d (a .long) (omega arith) in
+    let last : total w′ (suc d) ≡ total w D - s = total-after (suc d) w s d (a .long-too) (omega arith) in
     let longer : total v′ (suc d) ≤ total w′ (suc d) = omega arith in
     record {
       goes = λ l.

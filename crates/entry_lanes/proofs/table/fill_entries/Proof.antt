@@ -57,17 +57,13 @@ loop-less c = omega arith
 
 loop-again : tie.Need-loop-again Inv-loop μ-loop
 loop-again c =
-    let l = c .before .before .before .before .before .before .before in
+    let turn = c .before .before .before .before .before .before in
+    let l = turn .before in
     let a = l .before .before .args in
-    let s = viewOf (a .t1) in
-    let one = job-counts (a .t1) (l .loop .place) (c .before .before .before .before .before .before .loop-test .taken) in
-    let put = c .before .before .put-pair .ensures in (
-      omega arith,
-      put .0 ∙ l .loop .inv .1,
-      put .1 (weightAt s) (λ j. liftOf (a .bound) (sizeAt s j) (deadlineAt s j)) (ap (λ (x : Job). x .weight) one)
-          (ap (λ (x : Job). liftOf (a .bound) (x .size) (x .deadline)) one ∙ sym (c .before .before .before .lift-of .ensures))
-          (l .loop .inv .2),
-    )
+    let one = job-counts (a .t1) (l .loop .place) (turn .loop-test .taken) in
+    let lift = ap (λ (x : Job). liftOf (a .bound) (x .size) (x .deadline)) one ∙ sym (c .before .before .before .lift-of .ensures) in
+    let put = c .before .before .put-pair .ensures in
+    (omega arith, put .0 ∙ l .loop .inv .1, put .1 _ _ (ap (λ (x : Job). x .weight) one) lift (l .loop .inv .2))
 
 same-length : tie.Need-same-length Inv-loop μ-loop
 same-length c = c .before .loop .inv .1

@@ -1,5 +1,5 @@
 -- `steps` meets its contract. The loop's invariant: the least so far is that over the entries passed.
-use Prim.Native.Nat.{_+_, _*_, _-_, _≤_}
+use Prim.Native.Nat.{_-_, _≤_}
 use mathlib.Core.Path.{_≡_, ap, _∙_, subst}
 use native.Mathlib.Omega.{arith}
 use Rattle.model.specs.View.{viewOf}
@@ -26,17 +26,6 @@ abbrev μ-loop : tie.MeasureT-loop
 in-range : (c : tie.Start Inv-loop μ-loop) → Ranged (viewOf (c .args .t1))
 in-range c = ranged (viewOf (c .args .t1)) (c .pre .1)
 
--- what the loop begins with
-began : (c : tie.After-total Inv-loop μ-loop) →
-    let a = c .before .before .before .before .args in
-    let most = a .sizes .bound * a .sizes .largest - a .sizes .largest in
-    (c .total .result ≤ most) ×
-    (most - c .total .result + 1 ≡ stepsTo (a .sizes .largest) (a .sizes .bound) (viewOf (a .t1)) (queueIn (a .sizes .bound) (a .queue)) 0)
-began c =
-    let start = c .before .before .before .before in
-    let a = start .args in
-    rw (c .total .ensures) (steps-begun (a .sizes .largest) (a .sizes .bound) (viewOf (a .t1)) (a .queue) (start .pre .0 .bound-low) (start .pre .3))
-
 cast-most : tie.Need-cast-most Inv-loop μ-loop
 cast-most c = omega (arith, c .before .pre .0 .ranges .bound-high)
 
@@ -50,13 +39,17 @@ total-requires : tie.Need-total-requires Inv-loop μ-loop
 total-requires c κs = omega (arith, c .before .before .before .pre .0 .ranges .bound-high)
 
 sub-least : tie.Need-sub-least Inv-loop μ-loop
-sub-least c = began c .0
+sub-least c =
+    let start = c .before .before .before .before in
+    steps-begun (viewOf (start .args .t1)) (start .args .queue) (start .pre .0) (start .pre .3) (c .total .ensures) .0
 
 add-least : tie.Need-add-least Inv-loop μ-loop
-add-least c = omega (arith, began c .0, most-total (c .before .before .before .before .pre .0))
+add-least c = omega (arith, most-total (c .before .before .before .before .pre .0))
 
 loop-holds : tie.Need-loop-holds Inv-loop μ-loop
-loop-holds c = (omega arith, began c .1)
+loop-holds c =
+    let start = c .before .before .before .before in
+    (omega arith, steps-begun (viewOf (start .args .t1)) (start .args .queue) (start .pre .0) (start .pre .3) (c .total .ensures) .1)
 
 cast-one : tie.Need-cast-one Inv-loop μ-loop
 cast-one c = omega arith

@@ -53,15 +53,11 @@ loop-less c = omega arith
 
 loop-again : tie.Need-loop-again Inv-loop μ-loop
 loop-again c =
-    let l = c .before .before .before .before .before .before in
-    let a = l .before .before .args in
-    let one = speed-counts (a .t1) (l .loop .place) (c .before .before .before .before .before .loop-test .taken) in
-    let put = c .before .before .put-pair .ensures in (
-      omega arith,
-      put .0 ∙ l .loop .inv .1,
-      put .1 (speedAt (viewOf (a .t1))) (energyAt (viewOf (a .t1))) (ap (λ (x : Speed). x .speed) one) (ap (λ (x : Speed). x .energy) one)
-          (l .loop .inv .2),
-    )
+    let turn = c .before .before .before .before .before in
+    let l = turn .before in
+    let one = speed-counts (l .before .before .args .t1) (l .loop .place) (turn .loop-test .taken) in
+    let put = c .before .before .put-pair .ensures in
+    (omega arith, put .0 ∙ l .loop .inv .1, put .1 _ _ (ap (λ (x : Speed). x .speed) one) (ap (λ (x : Speed). x .energy) one) (l .loop .inv .2))
 
 same-length : tie.Need-same-length Inv-loop μ-loop
 same-length c = c .before .loop .inv .1

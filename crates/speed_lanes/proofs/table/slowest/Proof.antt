@@ -35,8 +35,8 @@ none test = refl
 asked : (c : tie.After-leads-on Inv-loop μ-loop) →
     let l = c .before .before .before in
     let a = l .before .args in
-    leadsOn (a .sizes .largest) (a .sizes .bound) (queueIn (a .sizes .bound) (a .queue)) (speedAt (viewOf (a .t1)) (l .loop .place)) ≡
-    c .leads-on .result
+    let s = viewOf (a .t1) in
+    leadsOn (a .sizes .largest) (a .sizes .bound) (queueIn (a .sizes .bound) (a .queue)) (speedAt s (l .loop .place)) ≡ c .leads-on .result
 asked c =
     let l = c .before .before .before in
     let a = l .before .args in
@@ -61,13 +61,9 @@ leads-on-requires c κs = c .before .before .before .pre .0
 
 returns : tie.Need-returns Inv-loop μ-loop
 returns c =
-    let l = c .before .before .before .before in
-    let start = l .before in
-    let a = start .args in
-    sym
-    (first-found (λ j. leadsOn (a .sizes .largest) (a .sizes .bound) (queueIn (a .sizes .bound) (a .queue)) (speedAt (viewOf (a .t1)) j))
-    (l .loop .place)
-    (a .t1 .«speed_count») (l .loop .inv .1) (asked (c .before) ∙ c .if1 .taken) (c .before .before .before .loop-test .taken))
+    let turn = c .before .before .before in
+    let l = turn .before in
+    sym (first-found _ (l .loop .place) (l .before .args .t1 .«speed_count») (l .loop .inv .1) (asked (c .before) ∙ c .if1 .taken) (turn .loop-test .taken))
 
 add-place : tie.Need-add-place Inv-loop μ-loop
 add-place c = omega arith
@@ -77,22 +73,14 @@ loop-less c = omega arith
 
 loop-again : tie.Need-loop-again Inv-loop μ-loop
 loop-again c =
-    let l = c .before .before .before .before in
-    let a = l .before .args in (
-      omega arith,
-      first-more (λ j. leadsOn (a .sizes .largest) (a .sizes .bound) (queueIn (a .sizes .bound) (a .queue)) (speedAt (viewOf (a .t1)) j))
-          (l .loop .place)
-          (l .loop .inv .1) (asked (c .before) ∙ c .if1 .left),
-    )
+    let l = c .before .before .before .before .loop in
+    (omega arith, first-more _ (l .place) (l .inv .1) (asked (c .before) ∙ c .if1 .left))
 
 returns-2 : tie.Need-returns-2 Inv-loop μ-loop
 returns-2 c =
     let l = c .before .loop in
-    let a = c .before .before .args in
-    let all : l .place ≡ a .t1 .«speed_count» = omega arith in
-    sym (l .inv .1) ∙
-    ap (firstPlace (λ j. leadsOn (a .sizes .largest) (a .sizes .bound) (queueIn (a .sizes .bound) (a .queue))
-    (speedAt (viewOf (a .t1)) j))) all
+    let all : l .place ≡ c .before .before .args .t1 .«speed_count» = omega arith in
+    sym (l .inv .1) ∙ ap (firstPlace _) all
 
 pub slowest-spec : {M : Type 1} → statement M
 slowest-spec =
