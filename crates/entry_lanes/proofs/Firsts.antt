@@ -1,21 +1,23 @@
 -- The first queue of a block of queues after a slot, in its six places: the last total stands twice.
 use Prim.Native.Nat.{ℕ, zero, suc, pred, min, _+_, _*_, _-_, _≤_, _<_}
-use mathlib.Core.Path.{_≡_, refl, sym, ap, _∙_}
-use mathlib.Core.List.{List, [], _∷_}
+use mathlib.Core.Path.{_≡_, refl, sym, ap, _∙_, subst}
+use mathlib.Core.List.{List, []}
 use native.Mathlib.Nat.{not-suc-le-zero, le-refl, suc-mul, mul-le-mul-right}
 use native.Mathlib.Numerals.{add-one}
 use native.Mathlib.Omega.{arith}
 use lib.Dec.{T}
 use lib.ListN.{length, getD, set}
 use lib.Seq.{take-all, take-append-le}
-use Rattle.limits.proofs.Places.{job-counts}
 use Rattle.model.specs.View.{viewOf, zeroJob}
+use Rattle.model.specs.Refusal.{fieldsRefusal}
 use Rattle.model.specs.declared.Job.{Job}
 use Rattle.model.specs.declared.Sheet.{Sheet}
 use Rattle.model.specs.Queue.{Queue, total, queueIn, placesOf, bearable, queueCount, arrive}
 use Rattle.model.proofs.Queues.{in-first-places, length-in, length-arrive, bearable-all, bearable-upto, listed-bearable}
-use Rattle.queues.specs.Blocks.{queueWith, firstOf, lowestOf}
+use Rattle.model.proofs.Refusal.{ranged}
 use Rattle.model.proofs.Tests.{holds-true}
+use Rattle.limits.proofs.Places.{job-counts}
+use Rattle.queues.specs.Blocks.{queueWith, firstOf, lowestOf}
 use Rattle.queues.specs.Order.{Numbered}
 use Rattle.slot.specs.Slot.{Small, lastTwice}
 use Rattle.queues.proofs.Blocks.{first-queue}
@@ -90,6 +92,10 @@ after-in {sizes} {b} {queue} m h e =
       lowest-is = sym (last-in D queue (m .bound-low)) ∙ last;
       last-high = omega (arith, lowest-upto M (pred D) b block);
     }
+
+-- an entry's size is small enough to be added
+pub size-upto : (sheet : Sheet) (j : ℕ) → fieldsRefusal (viewOf sheet) ≡ 0 → j < sheet .«job_count» → getD (sheet .jobs) j zeroJob .size ≤ 255
+size-upto sheet j right h = subst (λ (one : Job). one .size ≤ 255) (job-counts sheet j h) (ranged (viewOf sheet) right .size-high j h)
 
 -- a queue with the arrival of the entry at place j stands in the places that `arrive` answers
 pub joined-in : (sheet : Sheet) (D : ℕ) (places : List ℕ) (j : ℕ) {with : List ℕ} → D ≤ 6 → length places ≡ 6 → j < sheet .«job_count» →

@@ -33,9 +33,6 @@ steps-there : (M D : ℕ) (w : Queue) → T (bearable M w) → stepsOf M D w ≡
 steps-there M D w t =
     ap (λ (b : Bool). cond b (suc (min (pred D * M - total w (pred D)) (D * M - total w D))) 0) (holds-true (bearable M w) t)
 
-steps-nowhere : (M D : ℕ) (w : Queue) → bearable M w ≡ false → stepsOf M D w ≡ 0
-steps-nowhere M D w e = ap (λ (b : Bool). cond b (suc (min (pred D * M - total w (pred D)) (D * M - total w D))) 0) e
-
 lane-there : (M : ℕ) (w : Queue) → T (bearable M w) → laneOf M w ≡ numberOf M w
 lane-there M w t = ap (λ (b : Bool). cond b (numberOf M w) 0) (holds-true (bearable M w) t)
 
@@ -115,7 +112,7 @@ shifted-lane M n k v w {lift} {lowest} a never lifted = go (bearable M v) refl
         }
     go false e =
         record {
-          goes = λ h. absurd (omega (arith, steps-nowhere M (suc (suc n)) v e));
+          goes = λ h. absurd (not-suc-le-zero (rw e at h));
           ends = λ h.
               fails-false (bearable M w)
               (λ tw. subst T e
@@ -133,7 +130,7 @@ unmoved-lane M D w {lift} {lowest} = go (bearable M w) refl
           goes = λ h. (t, omega (arith, lane-there M w t, zero-mul lift, risen-none (D * M + 1 - lowest)));
           ends = λ h. absurd (omega (arith, steps-there M D w t));
         }
-    go false e = record { goes = λ h. absurd (omega (arith, steps-nowhere M D w e)); ends = λ h. e }
+    go false e = record { goes = λ h. absurd (not-suc-le-zero (rw e at h)); ends = λ h. e }
 
 -- the queues after a slot in a block
 
@@ -144,8 +141,8 @@ shifted-twice d k v w a e =
       long = length-twice v ∙ ap suc (a .long);
       long-too = length-twice w ∙ ap suc (a .long-too);
       same = λ u h. total-twice v u (omega (arith, a .long)) ∙ a .same u h ∙ sym (total-twice w u (omega (arith, a .long-too)));
-      before-is = total-twice w d (omega (arith, a .long-too)) ∙ e ∙ ap (λ (i : ℕ). i + k) (sym (total-twice v d (omega (arith, a .long))));
-      last-is = last w (a .long-too) ∙ e ∙ ap (λ (i : ℕ). i + k) (sym (last v (a .long)));
+      before-is = omega (arith, total-twice v d (omega (arith, a .long)), total-twice w d (omega (arith, a .long-too)));
+      last-is = omega (arith, last v (a .long), last w (a .long-too));
     }
   where
     last : (q : Queue) → length q ≡ d → total (lastTwice q) (suc d) ≡ total q d

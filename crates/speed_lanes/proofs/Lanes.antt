@@ -10,7 +10,7 @@ use native.Mathlib.Nat.{not-suc-le-zero, eq-or-lt-of-le, le-refl}
 use native.Mathlib.Omega.{arith}
 use borrow.Author.Tests.{le-leb, lt-leb}
 use lib.Dec.{T, leb, leb→le, le→leb}
-use lib.ListN.{length}
+use lib.ListN.{length, getD}
 use Rattle.model.specs.Queue.{Queue, total, NeverFalls, NoLonger, queueIn, placesOf, bearable, numberOf, run}
 use Rattle.laws.proofs.Longer.{no-longer-by, run-never-falls, bearable-carries}
 use Rattle.model.proofs.Queues.{length-run, total-run, length-in, bearable-at, bearable-upto}
@@ -73,13 +73,14 @@ module _ (M D : ℕ) (w : Queue) (s : ℕ) where
   leads-both : total w 1 ≤ s → T (bearable M (afterOf D w s)) → T (leadsOn M D w s)
   leads-both h t = and-both (leb (total w 1) s) (bearable M (afterOf D w s)) (le→leb (total w 1) s h) t
 
-  -- a speed below w(1) does not
-  pub leads-slow : s < total w 1 → leadsOn M D w s ≡ false
-  leads-slow h = ap (λ (b : Bool). b && bearable M (afterOf D w s)) (lt-leb (total w 1) s h)
+-- of the queue in the first places: a speed below w(1) does not
+module _ (M D : ℕ) (places : List ℕ) (s : ℕ) (low : 1 ≤ D) where
+  pub leads-slow : s < getD places 0 0 → leadsOn M D (queueIn D places) s ≡ false
+  leads-slow h = rw (lt-leb (total (queueIn D places) 1) s (omega (arith, total-in D places 1 low)))
 
-  -- any other where the queue after the slot is bearable
-  pub leads-fast : total w 1 ≤ s → leadsOn M D w s ≡ bearable M (afterOf D w s)
-  leads-fast h = ap (λ (b : Bool). b && bearable M (afterOf D w s)) (le-leb (total w 1) s h)
+  -- any other does where the queue after the slot is bearable
+  pub leads-fast : getD places 0 0 ≤ s → leadsOn M D (queueIn D places) s ≡ bearable M (afterOf D (queueIn D places) s)
+  leads-fast h = rw (le-leb (total (queueIn D places) 1) s (omega (arith, total-in D places 1 low)))
 
 -- it does in each queue that is nowhere longer, and so does each faster one
 pub leads-carries : (M D : ℕ) (v w : Queue) (s s′ : ℕ) → 1 ≤ D → length v ≡ D → length w ≡ D → NeverFalls v → NoLonger v w → s ≤ s′ →

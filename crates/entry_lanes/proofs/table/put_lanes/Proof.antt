@@ -1,16 +1,14 @@
 -- `put_lanes` meets its contract. The loop's invariant: the lanes of the entries passed stand there, and nothing else has changed.
 use Prim.Native.Nat.{_-_, _≤_}
-use mathlib.Core.Path.{refl, ap, _∙_, subst}
+use mathlib.Core.Path.{refl, ap, _∙_}
 use native.Mathlib.Omega.{arith}
 use Rattle.model.specs.View.{viewOf}
 use Rattle.model.specs.Queue.{queueIn}
-use Rattle.model.specs.declared.Job.{Job}
 use Rattle.model.proofs.Refusal.{Ranged, ranged}
-use Rattle.limits.proofs.Places.{job-counts}
 use Rattle.buffers.specs.Fills.{Fills, numberAt}
 use Rattle.buffers.proofs.Filling.{number-local, fills-none, fills-more, fills-whole, number-stored}
 use Rattle.entry_lanes.specs.Lanes.{joined, laneOf}
-use Rattle.entry_lanes.proofs.Firsts.{joined-in}
+use Rattle.entry_lanes.proofs.Firsts.{size-upto, joined-in}
 use Rattle.entry_lanes.proofs.table.put_lanes.Statement.{statement}
 use Rattle.entry_lanes.proofs.table.put_lanes.Tie as tie
 
@@ -40,13 +38,10 @@ element-copy-out-one c = omega (arith, in-range (c .before .before .before) .job
 
 arrive-requires : tie.Need-arrive-requires Inv-loop μ-loop
 arrive-requires c κs =
-    let start = c .before .before .before .before in
-    let place = c .before .before .loop .place in
-    let low = c .before .loop-test .taken in (
-      start .pre .1 .ranges .bound-high,
-      subst (λ (x : Job). x .size ≤ 255) (job-counts (start .args .t2) place low) (in-range start .size-high place low),
-      start .pre .3,
-    )
+    let l = c .before .before in
+    let start = l .before .before in
+    let small = size-upto (start .args .t2) (l .loop .place) (start .pre .2) (c .before .loop-test .taken) in
+    (start .pre .1 .ranges .bound-high, small, start .pre .3)
 
 lane-of-requires : tie.Need-lane-of-requires Inv-loop μ-loop
 lane-of-requires c κs = (c .before .before .before .before .before .pre .0, c .before .before .before .before .before .pre .1)

@@ -1,15 +1,13 @@
 -- `steps` meets its contract. The loop's invariant: the least so far is that over the entries passed.
 use Prim.Native.Nat.{_-_, _≤_}
-use mathlib.Core.Path.{_≡_, ap, _∙_, subst}
+use mathlib.Core.Path.{_≡_, ap, _∙_}
 use native.Mathlib.Omega.{arith}
 use Rattle.model.specs.View.{viewOf}
 use Rattle.model.specs.Queue.{queueIn}
-use Rattle.model.specs.declared.Job.{Job}
 use Rattle.model.proofs.Refusal.{Ranged, ranged}
-use Rattle.limits.proofs.Places.{job-counts}
 use Rattle.rows.proofs.Room.{most-total}
 use Rattle.entry_lanes.specs.Lanes.{stepsOf, stepsTo}
-use Rattle.entry_lanes.proofs.Firsts.{joined-in, largest-upto}
+use Rattle.entry_lanes.proofs.Firsts.{size-upto, joined-in, largest-upto}
 use Rattle.entry_lanes.proofs.Lanes.{steps-begun, steps-more}
 use Rattle.entry_lanes.proofs.table.steps.Statement.{statement}
 use Rattle.entry_lanes.proofs.table.steps.Tie as tie
@@ -62,13 +60,10 @@ element-copy-out-one c = omega (arith, in-range (c .before .before .before .befo
 
 arrive-requires : tie.Need-arrive-requires Inv-loop μ-loop
 arrive-requires c κs =
-    let start = c .before .before .before .before .before .before .before in
-    let place = c .before .before .loop .place in
-    let low = c .before .loop-test .taken in (
-      start .pre .0 .ranges .bound-high,
-      subst (λ (x : Job). x .size ≤ 255) (job-counts (start .args .t1) place low) (in-range start .size-high place low),
-      start .pre .2,
-    )
+    let l = c .before .before in
+    let start = l .before .before .before .before .before in
+    let small = size-upto (start .args .t1) (l .loop .place) (start .pre .1) (c .before .loop-test .taken) in
+    (start .pre .0 .ranges .bound-high, small, start .pre .2)
 
 steps-of-requires : tie.Need-steps-of-requires Inv-loop μ-loop
 steps-of-requires c κs = c .before .before .before .before .before .before .before .before .pre .0
@@ -100,9 +95,8 @@ loop-again c =
 returns : tie.Need-returns Inv-loop μ-loop
 returns c =
     let l = c .before in
-    let a = l .before .before .before .before .before .args in
-    let all : l .loop .place ≡ a .t1 .«job_count» = omega arith in
-    l .loop .inv .1 ∙ ap (stepsTo (a .sizes .largest) (a .sizes .bound) (viewOf (a .t1)) (queueIn (a .sizes .bound) (a .queue))) all
+    let all : l .loop .place ≡ l .before .before .before .before .before .args .t1 .«job_count» = omega arith in
+    l .loop .inv .1 ∙ ap (stepsTo _ _ _ _) all
 
 pub steps-spec : {M : Type 1} → statement M
 steps-spec =
