@@ -49,7 +49,8 @@ module _ (M : ℕ) where
 
   -- what `first_queue` answers, and its last total written once more behind it
   pub after-places : (d b : ℕ) {places : List ℕ} {last : ℕ} → d ≤ 5 → b < queueCount M (pred d) →
-      places ≡ placesOf (lastTwice (queueWith M (pred d) b)) → last ≡ total places d → set places d last ≡ placesOf (lastTwice (firstOf M d b))
+      places ≡ placesOf (lastTwice (queueWith M (pred d) b)) → last ≡ total places d →
+      set places d last ≡ placesOf (lastTwice (firstOf M d b))
   after-places zero b {places} {last} few h e here =
       cc (ap (λ (q : Queue). placesOf (lastTwice q)) (no-position M b h))
   after-places (suc d) b {places} few h e here =
@@ -84,9 +85,10 @@ after-in {sizes} {b} {queue} m h e =
     take-append-le (D - 1) v _ (omega arith) ∙ take-all (D - 1) v (omega arith) in
     let last : total (queueIn D queue) D ≡ lowestOf M (pred D) b =
     ap (λ (q : Queue). total q D) here ∙ ap (total (lastTwice v)) more ∙ last-twice v ∙ ap (total v) (first .0) ∙ first .2 in
+    let few : length (lastTwice v) ≤ 6 = omega (arith, m .ranges .bound-high) in
     record {
       after-is = here;
-      small = rw here (bearable-small M (lastTwice v) (m .ranges .speed-high) (omega (arith, m .ranges .bound-high)) (rw bearable-twice (first .1)));
+      small = rw here (bearable-small M (lastTwice v) (m .ranges .speed-high) few (rw bearable-twice (first .1)));
       before-is = before;
       numbered = numbered-before m before (first .1);
       lowest-is = sym (last-in D queue (m .bound-low)) ∙ last;
@@ -94,7 +96,8 @@ after-in {sizes} {b} {queue} m h e =
     }
 
 -- an entry's size is small enough to be added
-pub size-upto : (sheet : Sheet) (j : ℕ) → fieldsRefusal (viewOf sheet) ≡ 0 → j < sheet .«job_count» → getD (sheet .jobs) j zeroJob .size ≤ 255
+pub size-upto : (sheet : Sheet) (j : ℕ) → fieldsRefusal (viewOf sheet) ≡ 0 → j < sheet .«job_count» →
+    getD (sheet .jobs) j zeroJob .size ≤ 255
 size-upto sheet j right h = subst (λ (one : Job). one .size ≤ 255) (job-counts sheet j h) (ranged (viewOf sheet) right .size-high j h)
 
 -- a queue with the arrival of the entry at place j stands in the places that `arrive` answers
@@ -129,7 +132,7 @@ steps-in {sizes} {places} m six t =
     let w = queueIn D places in
     let long : length w ≡ D = length-in D places (omega (arith, m .ranges .bound-high)) in
     let last : total w D ≡ total places D = total-in D places D (le-refl D) in
-    let before : total w (pred D) ≡ total places (D - 1) = total-in D places (pred D) (omega arith) ∙ ap (total places) (sym (one-fewer D)) in
+    let before : total w (pred D) ≡ total places (D - 1) = rw one-fewer (total-in D places (pred D) (omega arith)) in
     let most = most-fewer M D (m .bound-low) in
     record {
       before-high = omega (arith, bearable-upto M w t (pred D) (omega arith));

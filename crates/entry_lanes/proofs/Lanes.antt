@@ -89,7 +89,8 @@ shifted-lane : (M n k : ℕ) (v w : Queue) {lift lowest : ℕ} → Shifted (suc 
 shifted-lane M n k v w {lift} {lowest} a never lifted = go (bearable M v) refl
   where
     -- what the bounds at the last two positions say of a bearable queue
-    held : (q : Queue) → length q ≡ suc (suc n) → T (bearable M q) → (total q (suc n) ≤ suc n * M) × (total q (suc (suc n)) ≤ suc (suc n) * M)
+    held : (q : Queue) → length q ≡ suc (suc n) → T (bearable M q) →
+        (total q (suc n) ≤ suc n * M) × (total q (suc (suc n)) ≤ suc (suc n) * M)
     held q long t = (bearable-upto M q t (suc n) (omega arith), bearable-upto M q t (suc (suc n)) (omega arith))
 
     far : T (bearable M v) → T (bearable M w) → numberOf M w + k * lift ≡ laneOf M v + risen (suc (suc n) * M + 1 - lowest) k
@@ -150,7 +151,8 @@ shifted-twice d k v w a e =
 
 -- so along it every entry has a lane
 pub lane-says : (M D b k c dl : ℕ) → 1 ≤ D → b < queueCount M (pred (pred D)) → lowestOf M (pred D) b + k ≤ pred D * M →
-    Lane M D (arrive (firstAfter M D b) c dl) (arrive (afterWith M D (startOf M (pred D) b + k)) c dl) (liftOf D c dl) (lowestOf M (pred D) b) k
+    Lane M D (arrive (firstAfter M D b) c dl) (arrive (afterWith M D (startOf M (pred D) b + k)) c dl) (liftOf D c dl)
+    (lowestOf M (pred D) b) k
 lane-says M zero b k c dl low h high = absurd (not-suc-le-zero low)
 lane-says M (suc zero) b k c dl low h high =
     let none : k ≡ 0 = omega (arith, zero-mul M) in
@@ -183,8 +185,8 @@ steps-begun s places {sizes} m h e =
 
 module _ (M D : ℕ) (s : View) (v : Queue) where
   -- with one entry more
-  pub steps-more : (j : ℕ) {least steps next : ℕ} → least ≡ stepsTo M D s v j → steps ≡ stepsOf M D (joined s v j) → next ≡ min least steps →
-      next ≡ stepsTo M D s v (j + 1)
+  pub steps-more : (j : ℕ) {least steps next : ℕ} → least ≡ stepsTo M D s v j → steps ≡ stepsOf M D (joined s v j) →
+      next ≡ min least steps → next ≡ stepsTo M D s v (j + 1)
   unfolding stepsTo
   steps-more j e d here = rw (add-one, ← e, ← d) here
 

@@ -1,5 +1,5 @@
--- A row that is filled block by block (queues/specs/Blocks.antt), and in each block from the lowest last total on: what is filled of it, and
--- that after the last block it is filled whole. The things may be values or plan bytes; a reader says what stands at a place.
+-- A row that is filled block by block (queues/specs/Blocks.antt), and in each block from the lowest last total on: what is filled of it,
+-- and that after the last block it is filled whole. The things may be values or plan bytes; a reader says what stands at a place.
 use Prim.Native.Nat.{ℕ, suc, pred, _+_, _*_, _-_, _≤_, _<_}
 use mathlib.Core.Path.{_≡_, sym, ap, subst}
 use mathlib.Core.List.{List}

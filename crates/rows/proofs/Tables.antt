@@ -10,7 +10,7 @@ use borrow.Author.Count.{below-more}
 use lib.ListN.{length, getD, set, length-set}
 use lib.Seq.{getD-set-same, getD-set-other}
 use Rattle.buffers.specs.Fills.{Fills, numberAt}
-use Rattle.buffers.proofs.Filling.{number-local, number-stored, fills-none, fills-then, fills-more, fills-whole}
+use Rattle.buffers.proofs.Filling.{number-local, fills-none, fills-then, fills-whole, number-more}
 use Rattle.rows.specs.Tables.{lineOf, lineAt, Columns, LinesPut, Table}
 
 -- the columns
@@ -52,12 +52,9 @@ columns-all e columns = rw (← e) columns
 pub head-stored : (l : List ℕ) (at number lowest third : ℕ) → at + 3 ≤ length l → (lane : ℕ → ℕ) →
     Fills 1 numberAt (lineOf number lowest third lane) at 3 l (set (set (set l at number) (at + 1) lowest) (at + 2) third)
 head-stored l at number lowest third h lane =
-    fills-more 1 numberAt number-local refl refl
-    (fills-more 1 numberAt number-local refl refl
-    (fills-more 1 numberAt number-local (sym (add-zero at)) refl (fills-none 1 numberAt (lineOf number lowest third lane) at l)
-    (number-stored l at number (omega arith)))
-    (number-stored _ (at + 1) lowest (simp length-set (omega arith))))
-    (number-stored _ (at + 2) third (simp length-set (omega arith)))
+    number-more (omega arith) refl
+    (number-more (omega arith) refl
+    (rw add-zero at (number-more (omega arith) refl (fills-none 1 numberAt (lineOf number lowest third lane) at l))))
 
 -- and behind them its lanes, as the line's numbers and its place are called elsewhere
 pub line-stored : {number lowest third at number′ lowest′ third′ at′ n : ℕ} {lane lane′ : ℕ → ℕ} {l₀ l₁ l₂ : List ℕ} →
@@ -95,7 +92,8 @@ put-more blocks {c} {n} {b} {line} {l′ = l′} low room fill so-far =
       lines =
           record {
             room = omega (arith, line-within c n b blocks low room, fill .same-length, so-far .same-length, suc-mul b (n + 3));
-            right = λ k i h j. below-more (λ k. (i : ℕ) → i < n + 3 → getD l′ (lineAt c n k + i) 0 ≡ line k i) b earlier (fill .filled) k h i j;
+            right = λ k i h l.
+                below-more (λ k. (i : ℕ) → i < n + 3 → getD l′ (lineAt c n k + i) 0 ≡ line k i) b earlier (fill .filled) k h i l;
           };
       columns-same = λ p h. fill .outside p (inl (omega arith)) ∙ so-far .columns-same p h;
     }

@@ -1,9 +1,9 @@
 -- Laws of the lanes of the speeds (specs/Lanes.antt). Where a speed leads on, every faster one does, and in every queue that is nowhere
 -- longer; so a speed that does not lead on from the first queue of a block leads on from none of its queues. And along a block the queue
 -- after a slot is found from the first one.
-use Prim.Native.Nat.{ℕ, zero, suc, min, max, _+_, _-_, _*_, _≤_, _<_}
+use Prim.Native.Nat.{ℕ, zero, suc, min, max, _-_, _≤_, _<_}
 use mathlib.Core.Path.{_≡_, refl, sym, ap, _∙_, subst}
-use mathlib.Core.Bool.{Bool, false, cond, _&&_}
+use mathlib.Core.Bool.{Bool, false, cond}
 use mathlib.Core.List.{List}
 use mathlib.Core.Logic.{⊎-elim}
 use native.Mathlib.Nat.{not-suc-le-zero, eq-or-lt-of-le, le-refl}

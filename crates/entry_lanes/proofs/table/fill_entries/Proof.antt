@@ -1,4 +1,4 @@
--- `fill_entries` meets its contract. The loop's invariant: the weights of the entries passed, and how much each lifts, stand in the columns.
+-- `fill_entries` meets its contract. The loop's invariant: the weights of the entries passed, and how much each lifts, are in the columns.
 use Prim.Native.Nat.{_-_, _≤_}
 use mathlib.Core.Path.{_≡_, refl, sym, ap, _∙_}
 use native.Mathlib.Omega.{arith}

@@ -1,12 +1,12 @@
 -- `put_lanes` meets its contract. The loop's invariant: the lanes of the entries passed stand there, and nothing else has changed.
 use Prim.Native.Nat.{_-_, _≤_}
-use mathlib.Core.Path.{refl, ap, _∙_}
+use mathlib.Core.Path.{ap, _∙_}
 use native.Mathlib.Omega.{arith}
 use Rattle.model.specs.View.{viewOf}
 use Rattle.model.specs.Queue.{queueIn}
 use Rattle.model.proofs.Refusal.{Ranged, ranged}
 use Rattle.buffers.specs.Fills.{Fills, numberAt}
-use Rattle.buffers.proofs.Filling.{number-local, fills-none, fills-more, fills-whole, number-stored}
+use Rattle.buffers.proofs.Filling.{fills-none, fills-whole, number-more}
 use Rattle.entry_lanes.specs.Lanes.{joined, laneOf}
 use Rattle.entry_lanes.proofs.Firsts.{size-upto, joined-in}
 use Rattle.entry_lanes.proofs.table.put_lanes.Statement.{statement}
@@ -56,7 +56,9 @@ mul-lanes : tie.Need-mul-lanes Inv-loop μ-loop
 mul-lanes c = omega arith
 
 slice-write-lanes : tie.Need-slice-write-lanes Inv-loop μ-loop
-slice-write-lanes c = omega (arith, c .before .before .before .before .loop .inv .1 .same-length, c .before .before .before .before .before .before .pre .4)
+slice-write-lanes c =
+    let l = c .before .before .before .before in
+    omega (arith, l .loop .inv .1 .same-length, l .before .before .pre .4)
 
 add-place : tie.Need-add-place Inv-loop μ-loop
 add-place c = omega arith
@@ -70,12 +72,10 @@ loop-again c =
     let l = turn .before in
     let start = l .before .before in
     let a = start .args in
-    let joined = joined-in (a .t2) (a .sizes .bound) (a .queue) (l .loop .place) (start .pre .1 .ranges .bound-high) (omega (arith, start .good))
-    (turn .loop-test .taken) (c .before .arrive .ensures) in (
-      omega arith,
-      fills-more 1 numberAt number-local refl (c .lane-of .ensures ∙ ap (laneOf (a .sizes .largest)) joined) (l .loop .inv .1)
-          (number-stored (l .loop .lanes) _ _ (omega (arith, l .loop .inv .1 .same-length, start .pre .4))),
-    )
+    let joined = joined-in (a .t2) (a .sizes .bound) (a .queue) (l .loop .place) (start .pre .1 .ranges .bound-high)
+    (omega (arith, start .good)) (turn .loop-test .taken) (c .before .arrive .ensures) in
+    let lane = c .lane-of .ensures ∙ ap (laneOf (a .sizes .largest)) joined in
+    (omega arith, number-more (omega (arith, start .pre .4)) lane (l .loop .inv .1))
 
 same-length : tie.Need-same-length Inv-loop μ-loop
 same-length c = c .before .loop .inv .1 .same-length

@@ -46,8 +46,8 @@ number-requires c κs = (c .before .before .before .before .pre .0, first (c .be
 
 cast-first : tie.Need-cast-first
 cast-first c =
-    let first-known = c .before .before .before in
-    omega (arith, number-before-small (first-known .before .before .pre .1) (omega arith) (first first-known .numbered) (c .number .ensures))
+    let known = c .before .before .before in
+    omega (arith, number-before-small (known .before .before .pre .1) (omega arith) (first known .numbered) (c .number .ensures))
 
 sub-put-head : tie.Need-sub-put-head
 sub-put-head c = search needs
@@ -60,9 +60,9 @@ array-read-put-head c = search needs
 
 steps-requires : tie.Need-steps-requires
 steps-requires c κs =
-    let first-known = c .before .before .before .before .before in
-    let start = first-known .before .before in
-    (start .pre .1, start .pre .2, first first-known .small, first first-known .last-high)
+    let known = c .before .before .before .before .before in
+    let start = known .before .before in
+    (start .pre .1, start .pre .2, first known .small, first known .last-high)
 
 put-head-requires : tie.Need-put-head-requires
 put-head-requires c κs = omega (arith, room (c .before .before .before .before .before))

@@ -49,7 +49,9 @@ smaller-requires : tie.Need-smaller-requires
 smaller-requires c κs = search needs
 
 add-result : tie.Need-add-result
-add-result c = omega (arith, c .smaller .ensures, most-total (c .before .before .before .before .before .before .before .before .before .pre))
+add-result c =
+    let start = c .before .before .before .before .before .before .before .before .before in
+    omega (arith, c .smaller .ensures, most-total (start .pre))
 
 returns-2 : tie.Need-returns-2
 returns-2 c = cc (steps (c .before .before .before .before .before .before .before) .steps-are)

@@ -35,9 +35,9 @@ returns : tie.Need-returns
 returns c =
     let fewer = c .before .before in
     let a = fewer .before .args in
-    twice-places (fewer .one-fewer .result) (queueWith (a .largest) (fewer .one-fewer .result) (a .block))
-    (omega (arith, fewer .one-fewer .ensures, fewer .before .pre .1 .bound-high))
-    (listed-bearable (a .largest) (fewer .one-fewer .result) (a .block) (within fewer) .0) (c .before .queue-at .ensures) (c .total .ensures) ∙
+    let d = fewer .one-fewer .result in
+    twice-places d (queueWith (a .largest) d (a .block)) (omega (arith, fewer .one-fewer .ensures, fewer .before .pre .1 .bound-high))
+    (listed-bearable (a .largest) d (a .block) (within fewer) .0) (c .before .queue-at .ensures) (c .total .ensures) ∙
     ap (λ (d : ℕ). placesOf (lastTwice (queueWith (a .largest) d (a .block)))) (fewer .one-fewer .ensures)
 
 pub first-queue-spec : {M : Type 1} → statement M

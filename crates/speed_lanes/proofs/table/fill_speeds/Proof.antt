@@ -57,7 +57,8 @@ loop-again c =
     let l = turn .before in
     let one = speed-counts (l .before .before .args .t1) (l .loop .place) (turn .loop-test .taken) in
     let put = c .before .before .put-pair .ensures in
-    (omega arith, put .0 ∙ l .loop .inv .1, put .1 _ _ (ap (λ (x : Speed). x .speed) one) (ap (λ (x : Speed). x .energy) one) (l .loop .inv .2))
+    let columns = put .1 _ _ (ap (λ (x : Speed). x .speed) one) (ap (λ (x : Speed). x .energy) one) (l .loop .inv .2) in
+    (omega arith, put .0 ∙ l .loop .inv .1, columns)
 
 same-length : tie.Need-same-length Inv-loop μ-loop
 same-length c = c .before .loop .inv .1

@@ -1,6 +1,6 @@
 -- `put_lanes` meets its contract. The loop's invariant: the lanes of the speeds passed stand there, and nothing else has changed.
 use Prim.Native.Nat.{_-_, _≤_}
-use mathlib.Core.Path.{refl, sym, ap, _∙_}
+use mathlib.Core.Path.{sym, ap, _∙_}
 use native.Mathlib.Omega.{arith}
 use Rattle.model.specs.View.{viewOf, speedAt}
 use Rattle.model.specs.Queue.{queueIn}
@@ -8,7 +8,7 @@ use Rattle.model.specs.declared.Speed.{Speed}
 use Rattle.model.proofs.Refusal.{Ranged, ranged}
 use Rattle.limits.proofs.Places.{speed-counts}
 use Rattle.buffers.specs.Fills.{Fills, numberAt}
-use Rattle.buffers.proofs.Filling.{number-local, fills-none, fills-more, fills-whole, number-stored}
+use Rattle.buffers.proofs.Filling.{fills-none, fills-whole, number-more}
 use Rattle.speed_lanes.specs.Lanes.{laneOf}
 use Rattle.speed_lanes.proofs.table.put_lanes.Statement.{statement}
 use Rattle.speed_lanes.proofs.table.put_lanes.Tie as tie
@@ -61,17 +61,13 @@ loop-less c = omega arith
 
 loop-again : tie.Need-loop-again Inv-loop μ-loop
 loop-again c =
-    let l = c .before .before .before in
+    let turn = c .before .before in
+    let l = turn .before in
     let start = l .before .before in
-    let a = start .args in (
-      omega arith,
-      fills-more 1 numberAt number-local refl
-          (c .lane-of .ensures ∙
-          ap (λ (x : Speed). laneOf (a .sizes .largest) (a .sizes .bound) (queueIn (a .sizes .bound) (a .queue)) (x .speed))
-          (sym (speed-counts (a .t2) (l .loop .place) (c .before .before .loop-test .taken))))
-          (l .loop .inv .1)
-          (number-stored (l .loop .lanes) _ _ (omega (arith, l .loop .inv .1 .same-length, start .pre .3))),
-    )
+    let a = start .args in
+    let lane = ap (λ (x : Speed). laneOf (a .sizes .largest) (a .sizes .bound) (queueIn (a .sizes .bound) (a .queue)) (x .speed))
+    (speed-counts (a .t2) (l .loop .place) (turn .loop-test .taken)) in
+    (omega arith, number-more (omega (arith, start .pre .3)) (c .lane-of .ensures ∙ sym lane) (l .loop .inv .1))
 
 same-length : tie.Need-same-length Inv-loop μ-loop
 same-length c = c .before .loop .inv .1 .same-length

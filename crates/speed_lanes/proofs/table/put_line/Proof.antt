@@ -43,8 +43,8 @@ number-requires c κs = (c .before .before .before .pre .0, first (c .before) .n
 
 cast-first : tie.Need-cast-first
 cast-first c =
-    let first-known = c .before .before in
-    omega (arith, number-small (first-known .before .before .pre .1) (omega arith) (first first-known .numbered) (c .number .ensures))
+    let known = c .before .before in
+    omega (arith, number-small (known .before .before .pre .1) (omega arith) (first known .numbered) (c .number .ensures))
 
 sub-put-head : tie.Need-sub-put-head
 sub-put-head c = search needs

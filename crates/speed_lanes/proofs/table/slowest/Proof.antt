@@ -63,7 +63,8 @@ returns : tie.Need-returns Inv-loop μ-loop
 returns c =
     let turn = c .before .before .before in
     let l = turn .before in
-    sym (first-found _ (l .loop .place) (l .before .args .t1 .«speed_count») (l .loop .inv .1) (asked (c .before) ∙ c .if1 .taken) (turn .loop-test .taken))
+    let count = l .before .args .t1 .«speed_count» in
+    sym (first-found _ (l .loop .place) count (l .loop .inv .1) (asked (c .before) ∙ c .if1 .taken) (turn .loop-test .taken))
 
 add-place : tie.Need-add-place Inv-loop μ-loop
 add-place c = omega arith
