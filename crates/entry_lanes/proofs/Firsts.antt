@@ -1,4 +1,5 @@
--- The first queue of a block of queues after a slot, in its six places: the last total stands twice.
+-- Queues in their six places, as the calls of this crate know them: the first queue of a block of queues after a slot, in which the last
+-- total stands twice; a queue with an arrival; and for how many steps a queue stays bearable.
 use Prim.Native.Nat.{ℕ, zero, suc, pred, min, _+_, _*_, _-_, _≤_, _<_}
 use mathlib.Core.Path.{_≡_, refl, sym, ap, _∙_, subst}
 use mathlib.Core.List.{List, []}
@@ -124,6 +125,7 @@ pub record StepsIn (M D : ℕ) (places : List ℕ) : Type 0 where
   pub last-high : total places D ≤ D * M
   pub steps-are : min (D * M - M - total places (D - 1)) (D * M - total places D) + 1 ≡ stepsOf M D (queueIn D places)
 
+-- so they are wherever the queue in the first places is bearable
 pub steps-in : {sizes : Sizes} {places : List ℕ} → Measured sizes → length places ≡ 6 →
     T (bearable (sizes .largest) (queueIn (sizes .bound) places)) → StepsIn (sizes .largest) (sizes .bound) places
 steps-in {sizes} {places} m six t =

@@ -1,4 +1,4 @@
--- What a caller of a lane's call learns of the test that it asks first: where the test fails the lane has no place, and 0 stands for it.
+-- What a call that works out a number knows of the test that it asks first: where the test fails there is none, and 0 stands for it.
 use Prim.Native.Nat.{ℕ}
 use mathlib.Core.Path.{_≡_, sym, subst}
 use mathlib.Core.Bool.{Bool, true, false, cond, not}

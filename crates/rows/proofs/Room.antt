@@ -1,6 +1,7 @@
--- What follows from the sizes of a sheet (sheets/specs/Sizes.antt): the tables and the buffer of the passes have room.
+-- What follows from the sizes of a sheet (sheets/specs/Sizes.antt): the tables and the buffer of the passes have room, and the numbers of
+-- queues are small.
 use Prim.Native.Nat.{ℕ, suc, _+_, _*_, _-_, _≤_, _<_}
-use mathlib.Core.Path.{_≡_, sym, ap, subst}
+use mathlib.Core.Path.{_≡_, ap}
 use mathlib.Core.List.{List}
 use native.Mathlib.Nat.{mul-le-mul, mul-le-mul-left}
 use native.Mathlib.Omega.{arith}
@@ -50,9 +51,11 @@ module _ {sizes : Sizes} (m : Measured sizes) where
       let short : n + 3 ≤ 35 = omega arith in
       omega (arith, mul-le-mul blocks-few short)
 
+  -- the queues of one position fewer, and their numbers
+
   -- one position fewer is in range too
   pub ranges-before : Ranges (sizes .largest) (sizes .bound - 1)
-  ranges-before = subst (Ranges (sizes .largest)) (sym (one-fewer (sizes .bound))) (ranges-fewer (m .ranges))
+  ranges-before = rw one-fewer (ranges-fewer (m .ranges))
 
   -- a bearable queue of one position fewer has a number
   pub numbered-before : {queue : List ℕ} {v : Queue} → queueIn (sizes .bound - 1) queue ≡ v → T (bearable (sizes .largest) v) →

@@ -56,7 +56,7 @@ head-stored l at number lowest third h lane =
     (number-more (omega arith) refl
     (rw add-zero at (number-more (omega arith) refl (fills-none 1 numberAt (lineOf number lowest third lane) at l))))
 
--- and behind them its lanes, as the line's numbers and its place are called elsewhere
+-- and behind them its lanes: that is the line of any numbers, place and lanes that are equal to those stored
 pub line-stored : {number lowest third at number′ lowest′ third′ at′ n : ℕ} {lane lane′ : ℕ → ℕ} {l₀ l₁ l₂ : List ℕ} →
     number ≡ number′ → lowest ≡ lowest′ → third ≡ third′ → at ≡ at′ → ((j : ℕ) → j < n → lane′ j ≡ lane j) →
     Fills 1 numberAt (lineOf number lowest third lane) at 3 l₀ l₁ → Fills 1 numberAt lane′ (at + 3) n l₁ l₂ →

@@ -73,8 +73,9 @@ module _ (M D : ℕ) (w : Queue) (s : ℕ) where
   leads-both : total w 1 ≤ s → T (bearable M (afterOf D w s)) → T (leadsOn M D w s)
   leads-both h t = and-both (leb (total w 1) s) (bearable M (afterOf D w s)) (le→leb (total w 1) s h) t
 
--- of the queue in the first places: a speed below w(1) does not
+-- from the queue in the first places
 module _ (M D : ℕ) (places : List ℕ) (s : ℕ) (low : 1 ≤ D) where
+  -- a speed below w(1) does not
   pub leads-slow : s < getD places 0 0 → leadsOn M D (queueIn D places) s ≡ false
   leads-slow h = rw (lt-leb (total (queueIn D places) 1) s (omega (arith, total-in D places 1 low)))
 

@@ -1,12 +1,10 @@
 -- `first_queue` meets its contract: the queue of one position fewer, and its last total written behind it.
-use mathlib.Core.Path.{ap, _∙_}
-use Prim.Native.Nat.{ℕ, _<_}
+use Prim.Native.Nat.{_<_}
 use native.Mathlib.Omega.{arith}
 use borrow.Author.Needs.{needs}
-use Rattle.model.specs.Queue.{placesOf, queueCount}
+use Rattle.model.specs.Queue.{queueCount}
 use Rattle.model.proofs.Queues.{listed-bearable}
 use Rattle.queues.specs.Blocks.{queueWith}
-use Rattle.slot.specs.Slot.{lastTwice}
 use Rattle.rows.proofs.LastTwice.{twice-places}
 use Rattle.sheets.proofs.Measures.{ranges-fewer}
 use Rattle.rows.proofs.table.first_queue.Statement.{statement}
@@ -36,9 +34,9 @@ returns c =
     let fewer = c .before .before in
     let a = fewer .before .args in
     let d = fewer .one-fewer .result in
-    twice-places d (queueWith (a .largest) d (a .block)) (omega (arith, fewer .one-fewer .ensures, fewer .before .pre .1 .bound-high))
-    (listed-bearable (a .largest) d (a .block) (within fewer) .0) (c .before .queue-at .ensures) (c .total .ensures) ∙
-    ap (λ (d : ℕ). placesOf (lastTwice (queueWith (a .largest) d (a .block)))) (fewer .one-fewer .ensures)
+    rw (← fewer .one-fewer .ensures)
+    (twice-places d (queueWith (a .largest) d (a .block)) (omega (arith, fewer .one-fewer .ensures, fewer .before .pre .1 .bound-high))
+    (listed-bearable (a .largest) d (a .block) (within fewer) .0) (c .before .queue-at .ensures) (c .total .ensures))
 
 pub first-queue-spec : {M : Type 1} → statement M
 first-queue-spec =
