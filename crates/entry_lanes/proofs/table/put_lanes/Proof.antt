@@ -4,7 +4,7 @@ use mathlib.Core.Path.{ap, _∙_}
 use native.Mathlib.Omega.{arith}
 use Rattle.model.specs.View.{viewOf}
 use Rattle.model.specs.Queue.{queueIn}
-use Rattle.model.proofs.Refusal.{Ranged, ranged}
+use Rattle.model.proofs.Refusal.{ranged}
 use Rattle.buffers.specs.Fills.{Fills, numberAt}
 use Rattle.buffers.proofs.Filling.{fills-none, fills-whole, number-more}
 use Rattle.entry_lanes.specs.Lanes.{joined, laneOf}
@@ -20,10 +20,6 @@ Inv-loop counts sizes queue at lanes₀ sheet place₀ lanes place =
 abbrev μ-loop : tie.MeasureT-loop
 μ-loop counts sizes queue at lanes₀ sheet place₀ lanes place = sheet .«job_count» - place
 
--- the sheet keeps its ranges
-in-range : (c : tie.Start Inv-loop μ-loop) → Ranged (viewOf (c .args .t2))
-in-range c = ranged (viewOf (c .args .t2)) (c .pre .2)
-
 loop-holds : tie.Need-loop-holds Inv-loop μ-loop
 loop-holds c = (omega arith, fills-none 1 numberAt _ (c .before .args .at) (c .before .args .lanes .now))
 
@@ -31,10 +27,10 @@ cast-one : tie.Need-cast-one Inv-loop μ-loop
 cast-one c = omega arith
 
 mul-one : tie.Need-mul-one Inv-loop μ-loop
-mul-one c = omega (arith, in-range (c .before .before .before) .jobs-high)
+mul-one c = omega (arith, ranged _ (c .before .before .before .pre .2) .jobs-high)
 
 element-copy-out-one : tie.Need-element-copy-out-one Inv-loop μ-loop
-element-copy-out-one c = omega (arith, in-range (c .before .before .before) .jobs-high)
+element-copy-out-one c = omega (arith, ranged _ (c .before .before .before .pre .2) .jobs-high)
 
 arrive-requires : tie.Need-arrive-requires Inv-loop μ-loop
 arrive-requires c κs =

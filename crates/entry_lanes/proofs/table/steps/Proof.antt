@@ -4,7 +4,7 @@ use mathlib.Core.Path.{_≡_, ap, _∙_}
 use native.Mathlib.Omega.{arith}
 use Rattle.model.specs.View.{viewOf}
 use Rattle.model.specs.Queue.{queueIn}
-use Rattle.model.proofs.Refusal.{Ranged, ranged}
+use Rattle.model.proofs.Refusal.{ranged}
 use Rattle.rows.proofs.Room.{most-total}
 use Rattle.entry_lanes.specs.Lanes.{stepsOf, stepsTo}
 use Rattle.entry_lanes.proofs.Firsts.{size-upto, joined-in, largest-upto}
@@ -19,10 +19,6 @@ Inv-loop sizes queue sheet most least₀ place₀ least place =
 
 abbrev μ-loop : tie.MeasureT-loop
 μ-loop sizes queue sheet most least₀ place₀ least place = sheet .«job_count» - place
-
--- the sheet keeps its ranges
-in-range : (c : tie.Start Inv-loop μ-loop) → Ranged (viewOf (c .args .t1))
-in-range c = ranged (viewOf (c .args .t1)) (c .pre .1)
 
 cast-most : tie.Need-cast-most Inv-loop μ-loop
 cast-most c = omega (arith, c .before .pre .0 .ranges .bound-high)
@@ -53,10 +49,10 @@ cast-one : tie.Need-cast-one Inv-loop μ-loop
 cast-one c = omega arith
 
 mul-one : tie.Need-mul-one Inv-loop μ-loop
-mul-one c = omega (arith, in-range (c .before .before .before .before .before .before) .jobs-high)
+mul-one c = omega (arith, ranged _ (c .before .before .before .before .before .before .pre .1) .jobs-high)
 
 element-copy-out-one : tie.Need-element-copy-out-one Inv-loop μ-loop
-element-copy-out-one c = omega (arith, in-range (c .before .before .before .before .before .before) .jobs-high)
+element-copy-out-one c = omega (arith, ranged _ (c .before .before .before .before .before .before .pre .1) .jobs-high)
 
 arrive-requires : tie.Need-arrive-requires Inv-loop μ-loop
 arrive-requires c κs =

@@ -5,7 +5,7 @@ use native.Mathlib.Omega.{arith}
 use Rattle.model.specs.View.{viewOf, speedAt}
 use Rattle.model.specs.Queue.{queueIn}
 use Rattle.model.specs.declared.Speed.{Speed}
-use Rattle.model.proofs.Refusal.{Ranged, ranged}
+use Rattle.model.proofs.Refusal.{ranged}
 use Rattle.limits.proofs.Places.{speed-counts}
 use Rattle.buffers.specs.Fills.{Fills, numberAt}
 use Rattle.buffers.proofs.Filling.{fills-none, fills-whole, number-more}
@@ -22,10 +22,6 @@ Inv-loop counts sizes queue at lanes₀ sheet place₀ lanes place =
 abbrev μ-loop : tie.MeasureT-loop
 μ-loop counts sizes queue at lanes₀ sheet place₀ lanes place = sheet .«speed_count» - place
 
--- the sheet keeps its ranges
-in-range : (c : tie.Start Inv-loop μ-loop) → Ranged (viewOf (c .args .t2))
-in-range c = ranged (viewOf (c .args .t2)) (c .pre .2)
-
 loop-holds : tie.Need-loop-holds Inv-loop μ-loop
 loop-holds c = (omega arith, fills-none 1 numberAt _ (c .before .args .at) (c .before .args .lanes .now))
 
@@ -33,10 +29,10 @@ cast-one : tie.Need-cast-one Inv-loop μ-loop
 cast-one c = omega arith
 
 mul-one : tie.Need-mul-one Inv-loop μ-loop
-mul-one c = omega (arith, in-range (c .before .before .before) .speeds-high)
+mul-one c = omega (arith, ranged _ (c .before .before .before .pre .2) .speeds-high)
 
 element-copy-out-one : tie.Need-element-copy-out-one Inv-loop μ-loop
-element-copy-out-one c = omega (arith, in-range (c .before .before .before) .speeds-high)
+element-copy-out-one c = omega (arith, ranged _ (c .before .before .before .pre .2) .speeds-high)
 
 lane-of-requires : tie.Need-lane-of-requires Inv-loop μ-loop
 lane-of-requires c κs = (c .before .before .before .before .pre .0, c .before .before .before .before .pre .1)

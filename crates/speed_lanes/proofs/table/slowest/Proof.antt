@@ -7,7 +7,7 @@ use Rattle.model.specs.View.{viewOf, speedAt}
 use Rattle.model.specs.Queue.{queueIn}
 use Rattle.model.specs.Tests.{firstPlace}
 use Rattle.model.specs.declared.Speed.{Speed}
-use Rattle.model.proofs.Refusal.{Ranged, ranged}
+use Rattle.model.proofs.Refusal.{ranged}
 use Rattle.model.proofs.Tests.{first-found, first-more}
 use Rattle.limits.proofs.Places.{speed-counts}
 use Rattle.speed_lanes.specs.Lanes.{leadsOn}
@@ -21,10 +21,6 @@ Inv-loop sizes queue sheet place₀ place =
 
 abbrev μ-loop : tie.MeasureT-loop
 μ-loop sizes queue sheet place₀ place = sheet .«speed_count» - place
-
--- the sheet keeps its ranges
-in-range : (c : tie.Start Inv-loop μ-loop) → Ranged (viewOf (c .args .t1))
-in-range c = ranged (viewOf (c .args .t1)) (c .pre .1)
 
 -- of no speeds none leads on
 none : (test : ℕ → Bool) → firstPlace test 0 ≡ 0
@@ -51,10 +47,10 @@ cast-one : tie.Need-cast-one Inv-loop μ-loop
 cast-one c = omega arith
 
 mul-one : tie.Need-mul-one Inv-loop μ-loop
-mul-one c = omega (arith, in-range (c .before .before) .speeds-high)
+mul-one c = omega (arith, ranged _ (c .before .before .pre .1) .speeds-high)
 
 element-copy-out-one : tie.Need-element-copy-out-one Inv-loop μ-loop
-element-copy-out-one c = omega (arith, in-range (c .before .before) .speeds-high)
+element-copy-out-one c = omega (arith, ranged _ (c .before .before .pre .1) .speeds-high)
 
 leads-on-requires : tie.Need-leads-on-requires Inv-loop μ-loop
 leads-on-requires c κs = c .before .before .before .pre .0
