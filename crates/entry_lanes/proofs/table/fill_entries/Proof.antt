@@ -41,9 +41,9 @@ lift-of-requires c κs = c .before .before .before .before .before .pre .2
 
 put-pair-requires : tie.Need-put-pair-requires Inv-loop μ-loop
 put-pair-requires c κs =
-    let l = c .before .before .before .before in
-    let start = l .before .before in
-    (omega (arith, ranged _ (start .pre .0) .jobs-high, c .before .before .before .loop-test .taken), omega (arith, l .loop .inv .1, start .pre .1))
+    let turn = c .before .before .before in
+    let start = turn .before .before .before in
+    (omega (arith, ranged _ (start .pre .0) .jobs-high, turn .loop-test .taken), omega (arith, turn .before .loop .inv .1, start .pre .1))
 
 add-place : tie.Need-add-place Inv-loop μ-loop
 add-place c = omega arith

@@ -35,8 +35,7 @@ first-after-requires c κs = search needs
 line-at-requires : tie.Need-line-at-requires
 line-at-requires c κs =
     let start = c .before .before in
-    let r = ranged (viewOf (start .args .sheet)) (start .pre .2) in
-    (omega arith, omega (arith, r .jobs-high), omega (arith, start .pre .3, blocks-few (start .pre .1)))
+    (omega arith, omega (arith, ranged _ (start .pre .2) .jobs-high), omega (arith, start .pre .3, blocks-few (start .pre .1)))
 
 sub-number : tie.Need-sub-number
 sub-number c = search needs

@@ -37,9 +37,9 @@ cast-put-pair c = omega arith
 
 put-pair-requires : tie.Need-put-pair-requires Inv-loop μ-loop
 put-pair-requires c κs =
-    let l = c .before .before .before in
-    let start = l .before .before in
-    (omega (arith, ranged _ (start .pre .0) .speeds-high, c .before .before .loop-test .taken), omega (arith, l .loop .inv .1, start .pre .1))
+    let turn = c .before .before in
+    let start = turn .before .before .before in
+    (omega (arith, ranged _ (start .pre .0) .speeds-high, turn .loop-test .taken), omega (arith, turn .before .loop .inv .1, start .pre .1))
 
 add-place : tie.Need-add-place Inv-loop μ-loop
 add-place c = omega arith

@@ -35,8 +35,7 @@ first-queue-requires c κs = search needs
 line-at-requires : tie.Need-line-at-requires
 line-at-requires c κs =
     let start = c .before .before in
-    let r = ranged (viewOf (start .args .sheet)) (start .pre .2) in
-    (omega arith, omega (arith, r .speeds-high), omega (arith, start .pre .3, after-room (start .pre .1)))
+    (omega arith, omega (arith, ranged _ (start .pre .2) .speeds-high), omega (arith, start .pre .3, after-room (start .pre .1)))
 
 number-requires : tie.Need-number-requires
 number-requires c κs = (c .before .before .before .pre .0, first (c .before) .numbered)
