@@ -27,14 +27,13 @@ use Rattle.rows.specs.Rows.{afterWith}
 use Rattle.entry_lanes.specs.Lanes.{firstAfter, joined, liftOf, stepsOf, stepsTo, laneOf, Lane}
 use Rattle.entry_lanes.proofs.Firsts.{no-position, most-fewer}
 
--- where a queue is bearable
+-- where a queue is bearable, its steps and the place of its lane
 
 steps-there : (M D : ℕ) (w : Queue) → T (bearable M w) → stepsOf M D w ≡ suc (min (pred D * M - total w (pred D)) (D * M - total w D))
-steps-there M D w t =
-    ap (λ (b : Bool). cond b (suc (min (pred D * M - total w (pred D)) (D * M - total w D))) 0) (holds-true (bearable M w) t)
+steps-there M D w t = rw (holds-true (bearable M w) t)
 
 lane-there : (M : ℕ) (w : Queue) → T (bearable M w) → laneOf M w ≡ numberOf M w
-lane-there M w t = ap (λ (b : Bool). cond b (numberOf M w) 0) (holds-true (bearable M w) t)
+lane-there M w t = rw (holds-true (bearable M w) t)
 
 -- shifted queues
 

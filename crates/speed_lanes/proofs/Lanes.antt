@@ -3,7 +3,7 @@
 -- after a slot is found from the first one.
 use Prim.Native.Nat.{ℕ, zero, suc, min, max, _-_, _≤_, _<_}
 use mathlib.Core.Path.{_≡_, refl, sym, ap, _∙_, subst}
-use mathlib.Core.Bool.{Bool, false, cond}
+use mathlib.Core.Bool.{false}
 use mathlib.Core.List.{List}
 use mathlib.Core.Logic.{⊎-elim}
 use native.Mathlib.Nat.{not-suc-le-zero, eq-or-lt-of-le, le-refl}
@@ -124,7 +124,7 @@ after-alike d v w s a =
 
 -- the number of the queue after the slot, where the speed leads on
 lane-there : (M D : ℕ) (v : Queue) (s : ℕ) → T (leadsOn M D v s) → laneOf M D v s ≡ numberOf M (afterOf D v s)
-lane-there M D v s t = ap (λ (b : Bool). cond b (numberOf M (afterOf D v s)) 0) (holds-true (leadsOn M D v s) t)
+lane-there M D v s t = rw (holds-true (leadsOn M D v s) t)
 
 -- a speed that leads on from the first queue has a lane
 pub lane-says : (M D : ℕ) (v w : Queue) (s : ℕ) → 1 ≤ D → Alike D v w → total v D ≤ total w D → T (leadsOn M D v s) →
