@@ -178,3 +178,9 @@ number-stored l i x h =
   where
     other : (p : ℕ) → (p < i * 1) ⊎ ((i + 1) * 1 ≤ p) → p ≡ i → ⊥
     other p = ⊎-elim (λ k e. omega arith) (λ k e. omega arith)
+
+-- n plain numbers, and one more stored behind them
+pub number-more : {f : ℕ → ℕ} {from n x : ℕ} {before after : List ℕ} → from + n < length before → x ≡ f n →
+    Fills 1 numberAt f from n before after → Fills 1 numberAt f from (n + 1) before (set after (from + n) x)
+number-more {from = from} {n = n} {x = x} {after = after} room same fill =
+    fills-more 1 numberAt number-local refl same fill (number-stored after (from + n) x (omega (arith, fill .same-length)))

@@ -1,28 +1,39 @@
--- The first queue of a block of queues after a slot, in its six places: the last total stands twice.
-use Prim.Native.Nat.{ℕ, zero, suc, pred, _*_, _-_, _≤_, _<_}
+-- Queues in their six places, as the calls of this crate know them: the first queue of a block of queues after a slot, in which the last
+-- total stands twice; a queue with an arrival; and for how many steps a queue stays bearable.
+use Prim.Native.Nat.{ℕ, zero, suc, pred, min, _+_, _*_, _-_, _≤_, _<_}
 use mathlib.Core.Path.{_≡_, refl, sym, ap, _∙_, subst}
-use mathlib.Core.List.{List, [], _∷_}
-use native.Mathlib.Nat.{not-suc-le-zero, le-refl, suc-mul}
+use mathlib.Core.List.{List, []}
+use native.Mathlib.Nat.{not-suc-le-zero, le-refl, suc-mul, mul-le-mul-right}
+use native.Mathlib.Numerals.{add-one}
 use native.Mathlib.Omega.{arith}
 use lib.Dec.{T}
 use lib.ListN.{length, getD, set}
 use lib.Seq.{take-all, take-append-le}
+use Rattle.model.specs.View.{viewOf, zeroJob}
+use Rattle.model.specs.Refusal.{fieldsRefusal}
+use Rattle.model.specs.declared.Job.{Job}
+use Rattle.model.specs.declared.Sheet.{Sheet}
 use Rattle.model.specs.Queue.{Queue, total, queueIn, placesOf, bearable, queueCount, arrive}
 use Rattle.model.proofs.Queues.{in-first-places, length-in, length-arrive, bearable-all, bearable-upto, listed-bearable}
+use Rattle.model.proofs.Refusal.{ranged}
+use Rattle.model.proofs.Tests.{holds-true}
+use Rattle.limits.proofs.Places.{job-counts}
 use Rattle.queues.specs.Blocks.{queueWith, firstOf, lowestOf}
-use Rattle.queues.specs.Order.{Ranges, Numbered}
+use Rattle.queues.specs.Order.{Numbered}
 use Rattle.slot.specs.Slot.{Small, lastTwice}
 use Rattle.queues.proofs.Blocks.{first-queue}
 use Rattle.slot.proofs.Places.{positions-in, total-in}
 use Rattle.slot.proofs.Slots.{length-twice, last-twice, bearable-twice, bearable-small}
 use Rattle.rows.proofs.LastTwice.{twice-places, last-in}
-use Rattle.sheets.proofs.Measures.{ranges-fewer, one-fewer}
-use Rattle.entry_lanes.specs.Lanes.{firstAfter}
+use Rattle.rows.proofs.Room.{numbered-before}
+use Rattle.sheets.specs.Sizes.{Measured}
+use Rattle.sheets.specs.declared.sizes.Sizes.{Sizes}
+use Rattle.sheets.proofs.Measures.{one-fewer}
+use Rattle.entry_lanes.specs.Lanes.{firstAfter, joined, stepsOf}
 
 -- there is one queue of no position
-pub no-position : (w : Queue) → length w ≡ 0 → w ≡ []
-no-position [] e = refl
-no-position (x ∷ w) e = absurd (omega arith)
+pub no-position : (M n : ℕ) → n < queueCount M 0 → queueWith M 0 n ≡ []
+no-position M n h = sym (take-all 0 (queueWith M 0 n) (omega (arith, listed-bearable M 0 n h .0)))
 
 module _ (M : ℕ) where
   -- the first queue of a block: as many positions, bearable, and the lowest last total, of no position too
@@ -39,81 +50,94 @@ module _ (M : ℕ) where
 
   -- what `first_queue` answers, and its last total written once more behind it
   pub after-places : (d b : ℕ) {places : List ℕ} {last : ℕ} → d ≤ 5 → b < queueCount M (pred d) →
-      places ≡ placesOf (lastTwice (queueWith M (pred d) b)) → last ≡ total places d → set places d last ≡ placesOf (lastTwice (firstOf M d b))
+      places ≡ placesOf (lastTwice (queueWith M (pred d) b)) → last ≡ total places d →
+      set places d last ≡ placesOf (lastTwice (firstOf M d b))
   after-places zero b {places} {last} few h e here =
-      let none = listed-bearable M 0 b h .0 in
-      ap (λ (x : ℕ). set places 0 x) here ∙
-      ap (λ (l : List ℕ). set l 0 0) (e ∙ ap (λ (q : Queue). placesOf (lastTwice q)) (no-position (queueWith M 0 b) none))
+      cc (ap (λ (q : Queue). placesOf (lastTwice q)) (no-position M b h))
   after-places (suc d) b {places} few h e here =
       let v = lastTwice (queueWith M d b) in
       let long : length v ≡ suc d = length-twice (queueWith M d b) ∙ ap suc (listed-bearable M d b h .0) in
       twice-places (suc d) v few long e here ∙ ap (λ (q : Queue). placesOf (lastTwice q)) (sym (take-all (suc d) v (omega arith)))
 
-module _ (M D b : ℕ) (low : 1 ≤ D) (r : Ranges M D) (h : b < queueCount M (pred (pred D))) {queue : List ℕ}
-    (e : queue ≡ placesOf (firstAfter M D b)) where
-  abbrev v : Queue
-  v = firstOf M (pred D) b
+-- the first queue of block b after a slot stands in these places and is small enough to be added to; before its last total stands the
+-- block's first queue, which has a number; and the last total is the lowest
+pub record AfterIn (M D b : ℕ) (queue : List ℕ) : Type 0 where
+  pub after-is : queueIn D queue ≡ firstAfter M D b
+  pub small : Small (queueIn D queue)
+  pub before-is : queueIn (D - 1) queue ≡ firstOf M (pred D) b
+  pub numbered : Numbered M (D - 1) queue
+  pub lowest-is : getD queue (D - 1) 0 ≡ lowestOf M (pred D) b
+  pub last-high : total (queueIn D queue) D ≤ pred D * M
 
-  long : length (lastTwice v) ≡ D
-  long = length-twice v ∙ omega (arith, first-of M (pred D) b h .0)
+-- it does in those that `first_after` answers
+pub after-in : {sizes : Sizes} {b : ℕ} {queue : List ℕ} → Measured sizes → b < sizes .blocks →
+    queue ≡ placesOf (firstAfter (sizes .largest) (sizes .bound) b) → AfterIn (sizes .largest) (sizes .bound) b queue
+after-in {sizes} {b} {queue} m h e =
+    let M = sizes .largest in
+    let D = sizes .bound in
+    let v = firstOf M (pred D) b in
+    let block : b < queueCount M (pred (pred D)) = omega (arith, m .blocks-is) in
+    let first = first-of M (pred D) b block in
+    let more : D ≡ suc (length v) = omega (arith, first .0, m .bound-low) in
+    let long : length (lastTwice v) ≡ D = length-twice v ∙ sym more in
+    let here : queueIn D queue ≡ lastTwice v = ap (queueIn D) e ∙ in-first-places D (lastTwice v) long (m .ranges .bound-high) in
+    let before : queueIn (D - 1) queue ≡ v =
+    ap (queueIn (D - 1)) e ∙ positions-in (D - 1) (lastTwice v) (omega (arith, m .ranges .bound-high)) (omega arith) ∙
+    take-append-le (D - 1) v _ (omega arith) ∙ take-all (D - 1) v (omega arith) in
+    let last : total (queueIn D queue) D ≡ lowestOf M (pred D) b =
+    ap (λ (q : Queue). total q D) here ∙ ap (total (lastTwice v)) more ∙ last-twice v ∙ ap (total v) (first .0) ∙ first .2 in
+    let few : length (lastTwice v) ≤ 6 = omega (arith, m .ranges .bound-high) in
+    record {
+      after-is = here;
+      small = rw here (bearable-small M (lastTwice v) (m .ranges .speed-high) few (rw bearable-twice (first .1)));
+      before-is = before;
+      numbered = numbered-before m before (first .1);
+      lowest-is = sym (last-in D queue (m .bound-low)) ∙ last;
+      last-high = omega (arith, lowest-upto M (pred D) b block);
+    }
 
-  -- in them stands this queue
-  pub after-in : queueIn D queue ≡ firstAfter M D b
-  after-in = ap (queueIn D) e ∙ in-first-places D (lastTwice v) long (r .bound-high)
+-- an entry's size is small enough to be added
+pub size-upto : (sheet : Sheet) (j : ℕ) → fieldsRefusal (viewOf sheet) ≡ 0 → j < sheet .«job_count» →
+    getD (sheet .jobs) j zeroJob .size ≤ 255
+size-upto sheet j right h = subst (λ (one : Job). one .size ≤ 255) (job-counts sheet j h) (ranged (viewOf sheet) right .size-high j h)
 
-  -- which is small enough to be added to
-  pub after-small : Small (queueIn D queue)
-  after-small =
-      subst Small (sym after-in)
-      (bearable-small M (lastTwice v) (r .speed-high) (omega (arith, long, r .bound-high))
-      (subst T (sym (bearable-twice M v)) (first-of M (pred D) b h .1)))
-
-  -- before its last total stands the block's first queue
-  pub before-in : queueIn (D - 1) queue ≡ v
-  before-in =
-      let shorter = first-of M (pred D) b h .0 in
-      ap (queueIn (D - 1)) e ∙ positions-in (D - 1) (lastTwice v) (omega (arith, r .bound-high)) (omega (arith, long)) ∙
-      ap (λ (n : ℕ). queueIn n (lastTwice v)) (one-fewer D) ∙ take-append-le (pred D) v _ (omega arith) ∙ take-all (pred D) v (omega arith)
-
-  -- which has a number
-  pub before-numbered : Numbered M (D - 1) queue
-  before-numbered =
-      record {
-        ranges = subst (Ranges M) (sym (one-fewer D)) (ranges-fewer r);
-        is-bearable = subst (λ (q : Queue). T (bearable M q)) (sym before-in) (first-of M (pred D) b h .1);
-      }
-
-  -- and the last total is the lowest
-  pub after-lowest : getD queue (D - 1) 0 ≡ lowestOf M (pred D) b
-  after-lowest =
-      let shorter = first-of M (pred D) b h in
-      let more : D ≡ suc (length v) = omega (arith, shorter .0) in
-      sym (last-in D queue low) ∙ ap (λ (q : Queue). total q D) after-in ∙ ap (total (lastTwice v)) more ∙ last-twice v ∙
-      ap (total v) (shorter .0) ∙ shorter .2
-
--- a queue with an arrival stands in the places that `arrive` answers
-pub joined-in : (D : ℕ) (places : List ℕ) (c d : ℕ) {with : List ℕ} → D ≤ 6 → D ≤ length places →
-    with ≡ placesOf (arrive (queueIn D places) c d) → queueIn D with ≡ arrive (queueIn D places) c d
-joined-in D places c d few long e =
-    ap (queueIn D) e ∙
-    in-first-places D (arrive (queueIn D places) c d) (length-arrive (queueIn D places) c d ∙ length-in D places long) few
+-- a queue with the arrival of the entry at place j stands in the places that `arrive` answers
+pub joined-in : (sheet : Sheet) (D : ℕ) (places : List ℕ) (j : ℕ) {with : List ℕ} → D ≤ 6 → length places ≡ 6 → j < sheet .«job_count» →
+    (let one = getD (sheet .jobs) j zeroJob in with ≡ placesOf (arrive (queueIn D places) (one .size) (one .deadline))) →
+    queueIn D with ≡ joined (viewOf sheet) (queueIn D places) j
+joined-in sheet D places j few six h e =
+    let w = queueIn D places in
+    ap (queueIn D) e ∙ in-first-places D (arrive w _ _) (length-arrive w _ _ ∙ length-in D places (omega arith)) few ∙
+    ap (λ (one : Job). arrive w (one .size) (one .deadline)) (sym (job-counts sheet j h))
 
 -- (D-1) times M, as the code works it out
 pub most-fewer : (M D : ℕ) → 1 ≤ D → D * M - M ≡ pred D * M
 most-fewer M zero low = absurd (not-suc-le-zero low)
 most-fewer M (suc d) low = omega (arith, suc-mul d M)
 
--- what the totals at the last two positions are held to, in the places
-module _ (M D : ℕ) (places : List ℕ) (low : 1 ≤ D) (t : T (bearable M (queueIn D places))) (long : length (queueIn D places) ≡ D) where
-  pub last-held : total places D ≤ D * M
-  last-held = omega (arith, bearable-upto M (queueIn D places) t D (omega arith), total-in D places D (le-refl D))
+-- M is no more than D times M
+pub largest-upto : {sizes : Sizes} → Measured sizes → sizes .largest ≤ sizes .bound * sizes .largest
+largest-upto {sizes} m = omega (arith, mul-le-mul-right (sizes .largest) (m .bound-low))
 
-  pub before-held : total places (D - 1) ≤ pred D * M
-  before-held =
-      let fewer = one-fewer D in
-      omega (
-        arith,
-        ap (total places) fewer,
-        bearable-upto M (queueIn D places) t (pred D) (omega arith),
-        total-in D places (pred D) (omega arith),
-      )
+-- the steps of a bearable queue, as the code works them out from its places, where no difference is below 0
+pub record StepsIn (M D : ℕ) (places : List ℕ) : Type 0 where
+  pub before-high : total places (D - 1) ≤ D * M - M
+  pub last-high : total places D ≤ D * M
+  pub steps-are : min (D * M - M - total places (D - 1)) (D * M - total places D) + 1 ≡ stepsOf M D (queueIn D places)
+
+-- so they are wherever the queue in the first places is bearable
+pub steps-in : {sizes : Sizes} {places : List ℕ} → Measured sizes → length places ≡ 6 →
+    T (bearable (sizes .largest) (queueIn (sizes .bound) places)) → StepsIn (sizes .largest) (sizes .bound) places
+steps-in {sizes} {places} m six t =
+    let M = sizes .largest in
+    let D = sizes .bound in
+    let w = queueIn D places in
+    let long : length w ≡ D = length-in D places (omega (arith, m .ranges .bound-high)) in
+    let last : total w D ≡ total places D = total-in D places D (le-refl D) in
+    let before : total w (pred D) ≡ total places (D - 1) = rw one-fewer (total-in D places (pred D) (omega arith)) in
+    let most = most-fewer M D (m .bound-low) in
+    record {
+      before-high = omega (arith, bearable-upto M w t (pred D) (omega arith));
+      last-high = omega (arith, bearable-upto M w t D (omega arith));
+      steps-are = rw (holds-true (bearable M w) t, most, ← last, ← before, add-one);
+    }

@@ -1,9 +1,9 @@
--- A row that is filled block by block (queues/specs/Blocks.antt), and in each block from the lowest last total on: what is filled of it, and
--- that after the last block it is filled whole. The things may be values or plan bytes; a reader says what stands at a place.
+-- A row that is filled block by block (queues/specs/Blocks.antt), and in each block from the lowest last total on: what is filled of it,
+-- and that after the last block it is filled whole. The things may be values or plan bytes; a reader says what stands at a place.
 use Prim.Native.Nat.{ℕ, suc, pred, _+_, _*_, _-_, _≤_, _<_}
 use mathlib.Core.Path.{_≡_, sym, ap, subst}
 use mathlib.Core.List.{List}
-use mathlib.Core.Logic.{_⊎_, inl, inr}
+use mathlib.Core.Logic.{inl, inr, ⊎-elim}
 use native.Mathlib.Nat.{not-suc-le-zero, eq-or-lt-of-le}
 use native.Mathlib.Omega.{arith}
 use Rattle.model.specs.Queue.{queueCount}
@@ -28,23 +28,16 @@ module _ {A : Type 0} (places : ℕ) (reader : List ℕ → ℕ → A) (local : 
         FillsWhere places reader f from (InBlock M d b x) l₀ l₁ → Fills places reader g next 1 l₁ l₂ →
         FillsWhere places reader f from (InBlock M d b (suc x)) l₀ l₂
     block-more x n low high e here same so-far fill =
+        let placed = block-place M d b x n h low high e in
         where-joined places reader local
-        (λ i q. split i q (eq-or-lt-of-le (upto i q)))
+        (λ i q. let upto : lastOf M d i ≤ x = omega (arith, q .last-low) in
+        ⊎-elim
+        (λ r. inr (omega (arith, in-block M d b i h (q .within) (q .block-is) .2, ap (λ (y : ℕ). y - lowestOf M d b) r)))
+        (λ l. inl (record { within = q .within; block-is = q .block-is; last-low = l })) (eq-or-lt-of-le upto))
         (λ i q. record { within = q .within; block-is = q .block-is; last-low = omega (arith, q .last-low) })
         (λ i q. subst (InBlock M d b (suc x)) (sym q) (placed .0))
         (λ i q r. omega (arith, q .last-low, ap (lastOf M d) r, placed .1))
         so-far (where-one places reader here same fill)
-      where
-        placed : InBlock M d b (suc x) n × (lastOf M d n ≡ x)
-        placed = block-place M d b x n h low high e
-
-        upto : (i : ℕ) → InBlock M d b (suc x) i → lastOf M d i ≤ x
-        upto i q = omega (arith, q .last-low)
-
-        split : (i : ℕ) → InBlock M d b (suc x) i → (lastOf M d i ≡ x) ⊎ (lastOf M d i < x) → InBlock M d b x i ⊎ (i ≡ n)
-        split i q (inl r) =
-            inr (omega (arith, in-block M d b i h (q .within) (q .block-is) .2, ap (λ (y : ℕ). y - lowestOf M d b) r))
-        split i q (inr l) = inl (record { within = q .within; block-is = q .block-is; last-low = l })
 
   -- of the row
 
@@ -58,19 +51,14 @@ module _ {A : Type 0} (places : ℕ) (reader : List ℕ → ℕ → A) (local : 
       FillsWhere places reader f from (InBlocks M d (b + 1)) l₀ l₂
   blocks-more b x h high so-far block =
       where-joined places reader local
-      (λ i q. split i q (eq-or-lt-of-le (upto i q)))
+      (λ i q. let upto : blockOf M d i ≤ b = omega (arith, q .block-low) in
+      ⊎-elim
+      (λ r. inr (record { within = q .within; block-is = r; last-low = omega (arith, in-block M d b i h (q .within) r .1) }))
+      (λ l. inl (record { within = q .within; block-low = l })) (eq-or-lt-of-le upto))
       (λ i q. record { within = q .within; block-low = omega (arith, q .block-low) })
       (λ i q. record { within = q .within; block-low = omega (arith, q .block-is) })
       (λ i q r. omega (arith, q .block-low, r .block-is))
       so-far block
-    where
-      upto : (i : ℕ) → InBlocks M d (b + 1) i → blockOf M d i ≤ b
-      upto i q = omega (arith, q .block-low)
-
-      split : (i : ℕ) → InBlocks M d (b + 1) i → (blockOf M d i ≡ b) ⊎ (blockOf M d i < b) → InBlocks M d b i ⊎ InBlock M d b x i
-      split i q (inl r) =
-          inr (record { within = q .within; block-is = r; last-low = omega (arith, in-block M d b i h (q .within) r .1) })
-      split i q (inr l) = inl (record { within = q .within; block-low = l })
 
   -- all of them
   pub blocks-whole : (b n : ℕ) {l₀ l : List ℕ} → b ≡ queueCount M (pred d) → n ≡ queueCount M d →

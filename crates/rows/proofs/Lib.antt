@@ -1,5 +1,6 @@
 pub mod Rows
 pub mod Room
+pub mod Answers
 pub mod LastTwice
 pub mod Tables
 pub mod Blocks

@@ -1,11 +1,18 @@
--- What follows from the sizes of a sheet (sheets/specs/Sizes.antt): the tables and the buffer of the passes have room.
-use Prim.Native.Nat.{ℕ, suc, _+_, _*_, _≤_}
-use mathlib.Core.Path.{ap}
+-- What follows from the sizes of a sheet (sheets/specs/Sizes.antt): the tables and the buffer of the passes have room, and the numbers of
+-- queues are small.
+use Prim.Native.Nat.{ℕ, suc, _+_, _*_, _-_, _≤_, _<_}
+use mathlib.Core.Path.{_≡_, ap}
+use mathlib.Core.List.{List}
 use native.Mathlib.Nat.{mul-le-mul, mul-le-mul-left}
 use native.Mathlib.Omega.{arith}
-use Rattle.model.specs.Queue.{queueCount}
+use lib.Dec.{T}
+use lib.ListN.{length}
+use Rattle.model.specs.Queue.{Queue, queueIn, bearable, queueCount, numberOf}
+use Rattle.queues.specs.Order.{Ranges, Numbered}
+use Rattle.queues.proofs.RoundTrip.{number-in-below}
 use Rattle.queues.proofs.Fewer.{few-after, few-lines, few-blocks}
 use Rattle.sheets.specs.Sizes.{Measured}
+use Rattle.sheets.proofs.Measures.{ranges-fewer, one-fewer}
 use Rattle.sheets.specs.declared.sizes.Sizes.{Sizes}
 use Rattle.rows.specs.Tables.{lineAt}
 
@@ -43,3 +50,31 @@ module _ {sizes : Sizes} (m : Measured sizes) where
   entry-lines-room n h =
       let short : n + 3 ≤ 35 = omega arith in
       omega (arith, mul-le-mul blocks-few short)
+
+  -- the queues of one position fewer, and their numbers
+
+  -- one position fewer is in range too
+  pub ranges-before : Ranges (sizes .largest) (sizes .bound - 1)
+  ranges-before = rw one-fewer (ranges-fewer (m .ranges))
+
+  -- a bearable queue of one position fewer has a number
+  pub numbered-before : {queue : List ℕ} {v : Queue} → queueIn (sizes .bound - 1) queue ≡ v → T (bearable (sizes .largest) v) →
+      Numbered (sizes .largest) (sizes .bound - 1) queue
+  numbered-before e t = record { ranges = ranges-before; is-bearable = rw e t }
+
+  -- the number of a queue is small
+  pub number-small : {queue : List ℕ} {number : ℕ} → length queue ≡ 6 → Numbered (sizes .largest) (sizes .bound) queue →
+      number ≡ numberOf (sizes .largest) (queueIn (sizes .bound) queue) → number < 65535
+  number-small {queue} six n e = omega (arith, number-in-below (sizes .largest) (sizes .bound) queue six n, queues-few)
+
+  -- and that of one of one position fewer
+  pub number-before-small : {queue : List ℕ} {number : ℕ} → length queue ≡ 6 → Numbered (sizes .largest) (sizes .bound - 1) queue →
+      number ≡ numberOf (sizes .largest) (queueIn (sizes .bound - 1) queue) → number < 7084
+  number-before-small {queue} six n e =
+      omega (
+        arith,
+        number-in-below (sizes .largest) (sizes .bound - 1) queue six n,
+        ap (queueCount (sizes .largest)) (one-fewer (sizes .bound)),
+        m .after-is,
+        after-room,
+      )

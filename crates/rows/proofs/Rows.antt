@@ -56,16 +56,10 @@ module _ (width : Width) (largest : ℕ) where
       1 ≤ D → length w ≡ D → NeverFalls w → total w 1 ≤ speed → valueInRow width largest l from (queueIn (pred D) (run w speed)) ≡ g
       (run w speed)
   after-says D g from l row w speed low long never fast =
+      let before = queueIn (pred D) (run w speed) in
+      let whole : length w ≡ suc (pred D) = omega arith in
+      let shorter : length before ≡ pred D = length-in (pred D) (run w speed) (omega (arith, length-run w speed)) in
       row-found (pred D) (λ v. g (lastTwice v)) from l (row .row) before shorter ∙
       ap (λ (v : Queue). only (bearable largest before) (g v)) (sym (run-twice w speed (pred D) whole fast)) ∙
       only-twice (bearable largest before) (g (run w speed))
       (λ e. row .strict (run w speed) (run-never-falls w speed never) (run-bearable largest w speed (pred D) whole fast ∙ e))
-    where
-      before : Queue
-      before = queueIn (pred D) (run w speed)
-
-      whole : length w ≡ suc (pred D)
-      whole = omega arith
-
-      shorter : length before ≡ pred D
-      shorter = length-in (pred D) (run w speed) (omega (arith, length-run w speed))

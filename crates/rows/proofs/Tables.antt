@@ -1,16 +1,17 @@
 -- Laws of tables (specs/Tables.antt): one number more in each column, and one line more; what is written behind leaves what stands before
 -- as it is.
-use Prim.Native.Nat.{ℕ, zero, suc, _+_, _*_, _≤_, _<_}
-use mathlib.Core.Path.{_≡_, refl, sym, ap, _∙_, subst}
+use Prim.Native.Nat.{ℕ, suc, _+_, _*_, _≤_, _<_}
+use mathlib.Core.Path.{_≡_, refl, sym, ap, _∙_}
 use mathlib.Core.List.{List}
-use mathlib.Core.Logic.{_⊎_, inl, inr}
-use native.Mathlib.Nat.{add-zero, suc-mul, mul-le-mul-right, not-suc-le-zero, eq-or-lt-of-le}
+use mathlib.Core.Logic.{inl}
+use native.Mathlib.Nat.{add-zero, suc-mul, mul-le-mul-right, not-suc-le-zero}
 use native.Mathlib.Omega.{arith}
+use borrow.Author.Count.{below-more}
 use lib.ListN.{length, getD, set, length-set}
 use lib.Seq.{getD-set-same, getD-set-other}
 use Rattle.buffers.specs.Fills.{Fills, numberAt}
-use Rattle.buffers.proofs.Filling.{number-local, number-stored, fills-none, fills-more}
-use Rattle.rows.specs.Tables.{lineOf, lineAt, Columns, Lines, LinesPut, Table}
+use Rattle.buffers.proofs.Filling.{number-local, fills-none, fills-then, fills-whole, number-more}
+use Rattle.rows.specs.Tables.{lineOf, lineAt, Columns, LinesPut, Table}
 
 -- the columns
 
@@ -23,36 +24,27 @@ pub columns-more : (c place a b : ℕ) (l : List ℕ) → place < c → c + c �
     Columns c place f g l → Columns c (place + 1) f g (set (set l place a) (c + place) b)
 columns-more c place a b l low room f g e d so-far =
     record {
-      firsts = λ j h. getD-set-other l₁ (c + place) j b 0 (λ q. omega arith) ∙ first j (eq-or-lt-of-le (upto j h));
-      seconds = λ j h. second j (eq-or-lt-of-le (upto j h));
+      firsts =
+          below-more (λ j. getD l₂ j 0 ≡ f j) place (λ j h. kept j (λ q. omega arith) (λ q. omega arith) ∙ so-far .firsts j h)
+          (getD-set-other l₁ (c + place) place b 0 (λ q. omega arith) ∙ getD-set-same l place a 0 (omega arith) ∙ sym e);
+      seconds =
+          below-more (λ j. getD l₂ (c + j) 0 ≡ g j) place
+          (λ j h. kept (c + j) (λ q. omega arith) (λ q. omega arith) ∙ so-far .seconds j h)
+          (getD-set-same l₁ (c + place) b 0 (omega (arith, length-set l place a)) ∙ sym d);
     }
   where
     l₁ : List ℕ
     l₁ = set l place a
 
-    upto : (j : ℕ) → j < place + 1 → j ≤ place
-    upto j h = omega arith
+    l₂ : List ℕ
+    l₂ = set l₁ (c + place) b
 
-    first : (j : ℕ) → (j ≡ place) ⊎ (j < place) → getD l₁ j 0 ≡ f j
-    first j (inl q) = ap (λ (i : ℕ). getD l₁ i 0) q ∙ getD-set-same l place a 0 (omega arith) ∙ sym e ∙ ap f (sym q)
-    first j (inr k) = getD-set-other l place j a 0 (λ q. omega arith) ∙ so-far .firsts j k
+    kept : (p : ℕ) → (p ≡ place → ⊥) → (p ≡ c + place → ⊥) → getD l₂ p 0 ≡ getD l p 0
+    kept p first second = getD-set-other l₁ (c + place) p b 0 second ∙ getD-set-other l place p a 0 first
 
-    second : (j : ℕ) → (j ≡ place) ⊎ (j < place) → getD (set l₁ (c + place) b) (c + j) 0 ≡ g j
-    second j (inl q) =
-        ap (λ (i : ℕ). getD (set l₁ (c + place) b) (c + i) 0) q ∙
-        getD-set-same l₁ (c + place) b 0 (omega (arith, length-set l place a)) ∙ sym d ∙ ap g (sym q)
-    second j (inr k) =
-        getD-set-other l₁ (c + place) (c + j) b 0 (λ q. omega arith) ∙ getD-set-other l place (c + j) a 0 (λ q. omega arith) ∙
-        so-far .seconds j k
-
--- what is written behind the columns leaves them as they are
-columns-twice : (c n : ℕ) {f g : ℕ → ℕ} {l l′ : List ℕ} → n ≤ c → ((p : ℕ) → p < c + c → getD l′ p 0 ≡ getD l p 0) → Columns c n f g l →
-    Columns c n f g l′
-columns-twice c n few lastTwice columns =
-    record {
-      firsts = λ j h. lastTwice j (omega arith) ∙ columns .firsts j h;
-      seconds = λ j h. lastTwice (c + j) (omega arith) ∙ columns .seconds j h;
-    }
+-- as many places are filled as there are
+pub columns-all : {c place all : ℕ} {f g : ℕ → ℕ} {l : List ℕ} → place ≡ all → Columns c place f g l → Columns c all f g l
+columns-all e columns = rw (← e) columns
 
 -- a line
 
@@ -60,50 +52,21 @@ columns-twice c n few lastTwice columns =
 pub head-stored : (l : List ℕ) (at number lowest third : ℕ) → at + 3 ≤ length l → (lane : ℕ → ℕ) →
     Fills 1 numberAt (lineOf number lowest third lane) at 3 l (set (set (set l at number) (at + 1) lowest) (at + 2) third)
 head-stored l at number lowest third h lane =
-    fills-more 1 numberAt number-local refl refl
-    (fills-more 1 numberAt number-local refl refl
-    (fills-more 1 numberAt number-local (sym (add-zero at)) refl (fills-none 1 numberAt (lineOf number lowest third lane) at l)
-    (number-stored l at number (omega arith)))
-    (number-stored l₁ (at + 1) lowest (omega (arith, length-set l at number))))
-    (number-stored l₂ (at + 2) third (omega (arith, length-set l at number, length-set l₁ (at + 1) lowest)))
-  where
-    l₁ : List ℕ
-    l₁ = set l at number
+    number-more (omega arith) refl
+    (number-more (omega arith) refl
+    (rw add-zero at (number-more (omega arith) refl (fills-none 1 numberAt (lineOf number lowest third lane) at l))))
 
-    l₂ : List ℕ
-    l₂ = set l₁ (at + 1) lowest
-
--- and behind them its lanes
-pub line-stored : (at n : ℕ) {number lowest third : ℕ} {lane lane′ : ℕ → ℕ} {l₀ l₁ l₂ : List ℕ} → ((j : ℕ) → j < n → lane′ j ≡ lane j) →
+-- and behind them its lanes: that is the line of any numbers, place and lanes that are equal to those stored
+pub line-stored : {number lowest third at number′ lowest′ third′ at′ n : ℕ} {lane lane′ : ℕ → ℕ} {l₀ l₁ l₂ : List ℕ} →
+    number ≡ number′ → lowest ≡ lowest′ → third ≡ third′ → at ≡ at′ → ((j : ℕ) → j < n → lane′ j ≡ lane j) →
     Fills 1 numberAt (lineOf number lowest third lane) at 3 l₀ l₁ → Fills 1 numberAt lane′ (at + 3) n l₁ l₂ →
-    Fills 1 numberAt (lineOf number lowest third lane) at (n + 3) l₀ l₂
-line-stored at n {number} {lowest} {third} {lane} {lane′} {l₀} {l₁} {l₂} same head lanes =
-    record { same-length = lanes .same-length ∙ head .same-length; filled = each; outside = beyond }
-  where
-    before : (i : ℕ) → i < 3 → getD l₂ (at + i) 0 ≡ lineOf number lowest third lane i
-    before i h = lanes .outside (at + i) (inl (omega arith)) ∙ head .filled i h
-
-    each : (i : ℕ) → i < n + 3 → getD l₂ (at + i) 0 ≡ lineOf number lowest third lane i
-    each zero h = before 0 (omega arith)
-    each (suc zero) h = before 1 (omega arith)
-    each (suc (suc zero)) h = before 2 (omega arith)
-    each (suc (suc (suc j))) h =
-        let place : at + suc (suc (suc j)) ≡ at + 3 + j = omega arith in
-        ap (λ (p : ℕ). getD l₂ p 0) place ∙ lanes .filled j (omega arith) ∙ same j (omega arith)
-
-    beyond : (p : ℕ) → (p < at * 1) ⊎ ((at + (n + 3)) * 1 ≤ p) → getD l₂ p 0 ≡ getD l₀ p 0
-    beyond p (inl h) = lanes .outside p (inl (omega arith)) ∙ head .outside p (inl h)
-    beyond p (inr h) = lanes .outside p (inr (omega arith)) ∙ head .outside p (inr (omega arith))
-
--- a line of the same numbers at the same place
-pub line-same : {number lowest third at number′ lowest′ third′ at′ n : ℕ} {lane : ℕ → ℕ} {l l′ : List ℕ} → number ≡ number′ → lowest ≡ lowest′ →
-    third ≡ third′ → at ≡ at′ → Fills 1 numberAt (lineOf number lowest third lane) at n l l′ →
-    Fills 1 numberAt (lineOf number′ lowest′ third′ lane) at′ n l l′
-line-same {number} {lowest} {third} {at} {number′} {lowest′} {third′} {n = n} {lane = lane} {l = l} {l′ = l′} p q r e fill =
-    subst (λ (x : ℕ). Fills 1 numberAt (lineOf number′ lowest′ third′ lane) x n l l′) e
-    (subst (λ (x : ℕ). Fills 1 numberAt (lineOf x lowest′ third′ lane) at n l l′) p
-    (subst (λ (x : ℕ). Fills 1 numberAt (lineOf number x third′ lane) at n l l′) q
-    (subst (λ (x : ℕ). Fills 1 numberAt (lineOf number lowest x lane) at n l l′) r fill)))
+    Fills 1 numberAt (lineOf number′ lowest′ third′ lane) at′ (n + 3) l₀ l₂
+line-stored {number} {lowest} {third} {lane = lane} p q r e same head lanes =
+    rw (← p, ← q, ← r, ← e)
+    (fills-whole 1 numberAt
+    (fills-then 1 numberAt number-local refl
+    (λ j h. let behind : suc (suc (suc j)) ≡ 3 + j = omega arith in same j h ∙ ap (lineOf number lowest third lane) behind) head lanes)
+    (omega arith))
 
 -- a line lies within a table that has room for it
 pub line-within : (c n b blocks : ℕ) {room : ℕ} → b < blocks → lineAt c n blocks ≤ room → lineAt c n b + (n + 3) ≤ room
@@ -111,51 +74,49 @@ line-within c n b blocks h room = omega (arith, mul-le-mul-right (n + 3) h, suc-
 
 -- the lines
 
--- one line more
-lines-more : (c n b : ℕ) (line : ℕ → ℕ → ℕ) {l l′ : List ℕ} → lineAt c n b + (n + 3) ≤ length l →
-    Fills 1 numberAt (line b) (lineAt c n b) (n + 3) l l′ → Lines c n b line l → Lines c n (b + 1) line l′
-lines-more c n b line {l} {l′} room fill so-far =
-    record {
-      room = omega (arith, fill .same-length, suc-mul b (n + 3));
-      right = λ k i h low. each k i low (eq-or-lt-of-le (upto k h));
-    }
-  where
-    upto : (k : ℕ) → k < b + 1 → k ≤ b
-    upto k h = omega arith
-
-    each : (k i : ℕ) → i < n + 3 → (k ≡ b) ⊎ (k < b) → getD l′ (lineAt c n k + i) 0 ≡ line k i
-    each k i low (inl q) =
-        subst (λ (j : ℕ). getD l′ (lineAt c n j + i) 0 ≡ line j i) (sym q) (fill .filled i low)
-    each k i low (inr h) =
-        let before : k * (n + 3) + (n + 3) ≤ b * (n + 3) = omega (arith, mul-le-mul-right (n + 3) h, suc-mul k (n + 3)) in
-        fill .outside (lineAt c n k + i) (inl (omega arith)) ∙ so-far .right k i h low
-
 -- none is put yet, in a table that has room for all
-pub put-none : (c n blocks : ℕ) (line : ℕ → ℕ → ℕ) {l : List ℕ} → lineAt c n blocks ≤ length l → LinesPut c n 0 line l l
-put-none c n blocks line room =
+pub put-none : (blocks : ℕ) {c n : ℕ} {line : ℕ → ℕ → ℕ} {l : List ℕ} → lineAt c n blocks ≤ length l → LinesPut c n 0 line l l
+put-none blocks room =
     record {
       same-length = refl;
       lines = record { room = omega arith; right = λ b i h k. absurd (not-suc-le-zero h) };
       columns-same = λ p h. refl;
     }
 
--- one more is put, and leaves the columns before it
-pub put-more : (c n b blocks : ℕ) (line : ℕ → ℕ → ℕ) {l₀ l l′ : List ℕ} → b < blocks → lineAt c n blocks ≤ length l₀ →
+-- one more is put, and leaves the columns and the lines before it
+pub put-more : (blocks : ℕ) {c n b : ℕ} {line : ℕ → ℕ → ℕ} {l₀ l l′ : List ℕ} → b < blocks → lineAt c n blocks ≤ length l₀ →
     Fills 1 numberAt (line b) (lineAt c n b) (n + 3) l l′ → LinesPut c n b line l₀ l → LinesPut c n (b + 1) line l₀ l′
-put-more c n b blocks line low room fill so-far =
+put-more blocks {c} {n} {b} {line} {l′ = l′} low room fill so-far =
     record {
       same-length = fill .same-length ∙ so-far .same-length;
-      lines = lines-more c n b line (omega (arith, line-within c n b blocks low room, so-far .same-length)) fill (so-far .lines);
+      lines =
+          record {
+            room = omega (arith, line-within c n b blocks low room, fill .same-length, so-far .same-length, suc-mul b (n + 3));
+            right = λ k i h l.
+                below-more (λ k. (i : ℕ) → i < n + 3 → getD l′ (lineAt c n k + i) 0 ≡ line k i) b earlier (fill .filled) k h i l;
+          };
       columns-same = λ p h. fill .outside p (inl (omega arith)) ∙ so-far .columns-same p h;
     }
+  where
+    earlier : (k : ℕ) → k < b → (i : ℕ) → i < n + 3 → getD l′ (lineAt c n k + i) 0 ≡ line k i
+    earlier k h i j =
+        let before : k * (n + 3) + (n + 3) ≤ b * (n + 3) = omega (arith, mul-le-mul-right (n + 3) h, suc-mul k (n + 3)) in
+        fill .outside (lineAt c n k + i) (inl (omega arith)) ∙ so-far .lines .right k i h j
 
 -- as many are put as there are
-pub put-all : (c n : ℕ) {blocks all : ℕ} (line : ℕ → ℕ → ℕ) {l₀ l : List ℕ} → blocks ≡ all → LinesPut c n blocks line l₀ l →
+pub put-all : {c n blocks all : ℕ} {line : ℕ → ℕ → ℕ} {l₀ l : List ℕ} → blocks ≡ all → LinesPut c n blocks line l₀ l →
     LinesPut c n all line l₀ l
-put-all c n line {l₀} {l} e = subst (λ (k : ℕ). LinesPut c n k line l₀ l) e
+put-all e put = rw (← e) put
 
 -- the columns, and behind them the lines of all blocks, are the table
-pub table-whole : (c n : ℕ) {blocks all : ℕ} {f g : ℕ → ℕ} {line : ℕ → ℕ → ℕ} {l l′ : List ℕ} → n ≤ c → blocks ≡ all → Columns c n f g l →
+pub table-whole : {c n blocks all : ℕ} {f g : ℕ → ℕ} {line : ℕ → ℕ → ℕ} {l l′ : List ℕ} → n ≤ c → blocks ≡ all → Columns c n f g l →
     LinesPut c n blocks line l l′ → Table c n all f g line l′
-table-whole c n {line = line} few e columns put =
-    record { columns = columns-twice c n few (put .columns-same) columns; lines = put-all c n line e put .lines }
+table-whole {c} few e columns put =
+    record {
+      columns =
+          record {
+            firsts = λ j h. put .columns-same j (omega arith) ∙ columns .firsts j h;
+            seconds = λ j h. put .columns-same (c + j) (omega arith) ∙ columns .seconds j h;
+          };
+      lines = put-all e put .lines;
+    }

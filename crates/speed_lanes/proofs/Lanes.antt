@@ -1,20 +1,20 @@
 -- Laws of the lanes of the speeds (specs/Lanes.antt). Where a speed leads on, every faster one does, and in every queue that is nowhere
 -- longer; so a speed that does not lead on from the first queue of a block leads on from none of its queues. And along a block the queue
 -- after a slot is found from the first one.
-use Prim.Native.Nat.{ℕ, zero, suc, min, max, _+_, _-_, _*_, _≤_, _<_}
+use Prim.Native.Nat.{ℕ, zero, suc, min, max, _-_, _≤_, _<_}
 use mathlib.Core.Path.{_≡_, refl, sym, ap, _∙_, subst}
-use mathlib.Core.Bool.{Bool, false, cond, _&&_}
+use mathlib.Core.Bool.{false}
 use mathlib.Core.List.{List}
-use mathlib.Core.Logic.{_⊎_, inl, inr}
+use mathlib.Core.Logic.{⊎-elim}
 use native.Mathlib.Nat.{not-suc-le-zero, eq-or-lt-of-le, le-refl}
 use native.Mathlib.Omega.{arith}
 use borrow.Author.Tests.{le-leb, lt-leb}
 use lib.Dec.{T, leb, leb→le, le→leb}
-use lib.ListN.{length}
+use lib.ListN.{length, getD}
 use Rattle.model.specs.Queue.{Queue, total, NeverFalls, NoLonger, queueIn, placesOf, bearable, numberOf, run}
 use Rattle.laws.proofs.Longer.{no-longer-by, run-never-falls, bearable-carries}
-use Rattle.model.proofs.Queues.{length-run, total-run, length-in, bearable-at}
-use Rattle.model.proofs.Tests.{and-left, and-right, and-both, same-test, holds-true}
+use Rattle.model.proofs.Queues.{length-run, total-run, length-in, bearable-at, bearable-upto}
+use Rattle.model.proofs.Tests.{and-left, and-right, and-both, fails-false, holds-true}
 use Rattle.queues.specs.Blocks.{Alike}
 use Rattle.queues.proofs.Blocks.{number-last, bearable-with}
 use Rattle.slot.proofs.Places.{total-in, positions-in}
@@ -36,10 +36,10 @@ after-places D places s low few six e =
     ap (λ (n : ℕ). queueIn n (run (queueIn D places) s)) (one-fewer D)
 
 -- its totals are those of the next positions, less the speed
-total-after : (d : ℕ) (w : Queue) (s u : ℕ) → length w ≡ suc d → 1 ≤ u → u ≤ d → total (afterOf (suc d) w s) u ≡ total w (suc u) - s
-total-after d w s u e low h =
-    let next : min (suc u) (length w) ≡ suc u = omega arith in
-    total-in d (run w s) u h ∙ total-run w s u low (omega arith) ∙ ap (λ (k : ℕ). total w k - s) next
+total-after : (d : ℕ) (w : Queue) (s i : ℕ) → length w ≡ suc d → i < d → total (afterOf (suc d) w s) (suc i) ≡ total w (suc (suc i)) - s
+total-after d w s i e h =
+    let next : min (suc (suc i)) (length w) ≡ suc (suc i) = omega arith in
+    total-in d (run w s) (suc i) h ∙ total-run w s (suc i) (omega arith) (omega arith) ∙ ap (λ (k : ℕ). total w k - s) next
 
 -- it never falls
 after-never-falls : (d : ℕ) (w : Queue) (s : ℕ) → length w ≡ suc d → NeverFalls w → NeverFalls (afterOf (suc d) w s)
@@ -57,13 +57,8 @@ after-no-longer : (d : ℕ) (v w : Queue) (s s′ : ℕ) → length v ≡ suc d 
     NoLonger (afterOf (suc d) v s′) (afterOf (suc d) w s)
 after-no-longer d v w s s′ e f n h =
     no-longer-by (afterOf (suc d) v s′) (afterOf (suc d) w s) (length-after d v s′ e ∙ sym (length-after d w s f))
-    (λ i k. let l : suc i ≤ d = omega (arith, length-after d v s′ e) in
-    omega (
-      arith,
-      total-after d v s′ (suc i) e (omega arith) l,
-      total-after d w s (suc i) f (omega arith) l,
-      n (suc (suc i)),
-    ))
+    (λ i k. let l : i < d = omega (arith, length-after d v s′ e) in
+    omega (arith, total-after d v s′ i e l, total-after d w s i f l, n (suc (suc i))))
 
 -- a speed that leads on
 
@@ -78,13 +73,15 @@ module _ (M D : ℕ) (w : Queue) (s : ℕ) where
   leads-both : total w 1 ≤ s → T (bearable M (afterOf D w s)) → T (leadsOn M D w s)
   leads-both h t = and-both (leb (total w 1) s) (bearable M (afterOf D w s)) (le→leb (total w 1) s h) t
 
+-- from the queue in the first places
+module _ (M D : ℕ) (places : List ℕ) (s : ℕ) (low : 1 ≤ D) where
   -- a speed below w(1) does not
-  pub leads-slow : s < total w 1 → leadsOn M D w s ≡ false
-  leads-slow h = ap (λ (b : Bool). b && bearable M (afterOf D w s)) (lt-leb (total w 1) s h)
+  pub leads-slow : s < getD places 0 0 → leadsOn M D (queueIn D places) s ≡ false
+  leads-slow h = rw (lt-leb (total (queueIn D places) 1) s (omega (arith, total-in D places 1 low)))
 
-  -- any other where the queue after the slot is bearable
-  pub leads-fast : total w 1 ≤ s → leadsOn M D w s ≡ bearable M (afterOf D w s)
-  leads-fast h = ap (λ (b : Bool). b && bearable M (afterOf D w s)) (le-leb (total w 1) s h)
+  -- any other does where the queue after the slot is bearable
+  pub leads-fast : getD places 0 0 ≤ s → leadsOn M D (queueIn D places) s ≡ bearable M (afterOf D (queueIn D places) s)
+  leads-fast h = rw (le-leb (total (queueIn D places) 1) s (omega (arith, total-in D places 1 low)))
 
 -- it does in each queue that is nowhere longer, and so does each faster one
 pub leads-carries : (M D : ℕ) (v w : Queue) (s s′ : ℕ) → 1 ≤ D → length v ≡ D → length w ≡ D → NeverFalls v → NoLonger v w → s ≤ s′ →
@@ -101,23 +98,18 @@ leads-carries M (suc d) v w s s′ low e f never n h t =
 
 -- the first queue is nowhere longer than a later one
 alike-no-longer : (D : ℕ) (v w : Queue) → Alike D v w → total v D ≤ total w D → NoLonger v w
-alike-no-longer D v w a h = no-longer-by v w (a .long ∙ sym (a .long-too)) (λ i l. each i (eq-or-lt-of-le (inside i l)))
-  where
-    inside : (i : ℕ) → i < length v → suc i ≤ D
-    inside i l = omega (arith, a .long)
-
-    each : (i : ℕ) → (suc i ≡ D) ⊎ (suc i < D) → total v (suc i) ≤ total w (suc i)
-    each i (inl q) = omega (arith, ap (total v) q, ap (total w) q)
-    each i (inr l) = omega (arith, a .same (suc i) l)
+alike-no-longer D v w a h =
+    no-longer-by v w (a .long ∙ sym (a .long-too))
+    (λ i l. let inside : suc i ≤ D = omega (arith, a .long) in
+    ⊎-elim (λ e. omega (arith, ap (total v) e, ap (total w) e)) (λ k. omega (arith, a .same (suc i) k)) (eq-or-lt-of-le inside))
 
 -- a speed that does not lead on from the first queue does not from a later one
 pub leads-nowhere : (M D : ℕ) (v w : Queue) (s : ℕ) → 1 ≤ D → Alike D v w → T (bearable M v) → total v D ≤ total w D →
     leadsOn M D v s ≡ false → leadsOn M D w s ≡ false
 leads-nowhere M D v w s low a tv h e =
-    same-test (leadsOn M D w s) false
+    fails-false (leadsOn M D w s)
     (λ t. subst T e
     (leads-carries M D v w s s low (a .long) (a .long-too) (λ u l. bearable-at M v tv u l .0) (alike-no-longer D v w a h) (le-refl s) t))
-    (λ f. absurd f)
 
 -- after a slot two queues of a block are two of a block
 after-alike : (d : ℕ) (v w : Queue) (s : ℕ) → Alike (suc d) v w → Alike d (afterOf (suc d) v s) (afterOf (suc d) w s)
@@ -127,16 +119,12 @@ after-alike d v w s a =
     each : (u : ℕ) → u < d → total (afterOf (suc d) v s) u ≡ total (afterOf (suc d) w s) u
     each zero h = refl
     each (suc i) h =
-        omega (
-          arith,
-          total-after d v s (suc i) (a .long) (omega arith) (omega arith),
-          total-after d w s (suc i) (a .long-too) (omega arith) (omega arith),
-          a .same (suc (suc i)) (omega arith),
-        )
+        let l : i < d = omega arith in
+        omega (arith, total-after d v s i (a .long) l, total-after d w s i (a .long-too) l, a .same (suc (suc i)) (omega arith))
 
 -- the number of the queue after the slot, where the speed leads on
 lane-there : (M D : ℕ) (v : Queue) (s : ℕ) → T (leadsOn M D v s) → laneOf M D v s ≡ numberOf M (afterOf D v s)
-lane-there M D v s t = ap (λ (b : Bool). cond b (numberOf M (afterOf D v s)) 0) (holds-true (leadsOn M D v s) t)
+lane-there M D v s t = rw (holds-true (leadsOn M D v s) t)
 
 -- a speed that leads on from the first queue has a lane
 pub lane-says : (M D : ℕ) (v w : Queue) (s : ℕ) → 1 ≤ D → Alike D v w → total v D ≤ total w D → T (leadsOn M D v s) →
@@ -144,51 +132,25 @@ pub lane-says : (M D : ℕ) (v w : Queue) (s : ℕ) → 1 ≤ D → Alike D v w 
 lane-says M zero v w s low a h t = absurd (not-suc-le-zero low)
 lane-says M (suc zero) v w s low a h t =
     record {
-      goes = λ l. (leads-both M 1 w s (omega arith) there, ap (numberOf M) same ∙ omega (arith, lane-there M 1 v s t));
-      ends = λ l. same-test (leadsOn M 1 w s) false (λ k. omega (arith, leads-parts M 1 w s k .0)) (λ f. absurd f);
+      goes = λ l. (leads-both M 1 w s (omega arith) (leads-parts M 1 v s t .1), omega (arith, lane-there M 1 v s t));
+      ends = λ l. fails-false (leadsOn M 1 w s) (λ k. omega (arith, leads-parts M 1 w s k .0));
     }
-  where
-    same : afterOf 1 w s ≡ afterOf 1 v s
-    same = refl
-
-    there : T (bearable M (afterOf 1 w s))
-    there = leads-parts M 1 v s t .1
 lane-says M (suc (suc d)) v w s low a h t =
+    let D = suc (suc d) in
+    let v′ = afterOf D v s in
+    let w′ = afterOf D w s in
+    let next = after-alike (suc d) v w s a in
+    let parts = leads-parts M D v s t in
+    let first : total v′ (suc d) ≡ total v D - s = total-after (suc d) v s d (a .long) (omega arith) in
+    let last : total w′ (suc d) ≡ total w D - s = total-after (suc d) w s d (a .long-too) (omega arith) in
+    let longer : total v′ (suc d) ≤ total w′ (suc d) = omega arith in
     record {
       goes = λ l.
-          let tw = there l in (
-            leads-both M (suc (suc d)) w s (omega (arith, leads-parts M (suc (suc d)) v s t .0, a .same 1 (omega arith))) tw,
-            omega (
-              arith,
-              number-last M d (afterOf (suc (suc d)) v s) (afterOf (suc (suc d)) w s) next (leads-parts M (suc (suc d)) v s t .1) tw longer,
-              lane-there M (suc (suc d)) v s t,
-              first,
-              last,
-            ),
+          let there = bearable-with M (suc d) v′ w′ next (parts .1) longer (omega arith) in (
+            leads-both M D w s (omega (arith, parts .0, a .same 1 (omega arith))) there,
+            omega (arith, number-last M d v′ w′ next (parts .1) there longer, lane-there M D v s t),
           );
       ends = λ l.
-          same-test (leadsOn M (suc (suc d)) w s) false
-          (λ k. omega (
-            arith,
-            last,
-            bearable-at M (afterOf (suc (suc d)) w s) (leads-parts M (suc (suc d)) w s k .1) d (omega (arith, next .long-too)) .1,
-          ))
-          (λ f. absurd f);
+          fails-false (leadsOn M D w s)
+          (λ k. omega (arith, bearable-upto M w′ (leads-parts M D w s k .1) (suc d) (omega (arith, next .long-too))));
     }
-  where
-    next : Alike (suc d) (afterOf (suc (suc d)) v s) (afterOf (suc (suc d)) w s)
-    next = after-alike (suc d) v w s a
-
-    first : total (afterOf (suc (suc d)) v s) (suc d) ≡ total v (suc (suc d)) - s
-    first = total-after (suc d) v s (suc d) (a .long) (omega arith) (omega arith)
-
-    last : total (afterOf (suc (suc d)) w s) (suc d) ≡ total w (suc (suc d)) - s
-    last = total-after (suc d) w s (suc d) (a .long-too) (omega arith) (omega arith)
-
-    longer : total (afterOf (suc (suc d)) v s) (suc d) ≤ total (afterOf (suc (suc d)) w s) (suc d)
-    longer = omega (arith, first, last)
-
-    there : total w (suc (suc d)) ≤ suc d * M + s → T (bearable M (afterOf (suc (suc d)) w s))
-    there l =
-        bearable-with M (suc d) (afterOf (suc (suc d)) v s) (afterOf (suc (suc d)) w s) next (leads-parts M (suc (suc d)) v s t .1) longer
-        (omega (arith, last))

@@ -1,14 +1,14 @@
--- `fill_entries` meets its contract. The loop's invariant: the weights of the entries passed, and how much each lifts, stand in the columns.
-use Prim.Native.Nat.{ℕ, _-_, _≤_}
-use mathlib.Core.Path.{_≡_, refl, sym, ap, _∙_, subst}
+-- `fill_entries` meets its contract. The loop's invariant: the weights of the entries passed, and how much each lifts, are in the columns.
+use Prim.Native.Nat.{_-_, _≤_}
+use mathlib.Core.Path.{_≡_, refl, sym, ap, _∙_}
 use native.Mathlib.Omega.{arith}
 use lib.ListN.{length}
 use Rattle.model.specs.View.{viewOf, weightAt, sizeAt, deadlineAt}
 use Rattle.model.specs.declared.Job.{Job}
-use Rattle.model.proofs.Refusal.{Ranged, ranged}
+use Rattle.model.proofs.Refusal.{ranged}
 use Rattle.limits.proofs.Places.{job-counts}
 use Rattle.rows.specs.Tables.{Columns}
-use Rattle.rows.proofs.Tables.{columns-none}
+use Rattle.rows.proofs.Tables.{columns-none, columns-all}
 use Rattle.entry_lanes.specs.Lanes.{liftOf}
 use Rattle.entry_lanes.proofs.table.fill_entries.Statement.{statement}
 use Rattle.entry_lanes.proofs.table.fill_entries.Tie as tie
@@ -21,10 +21,6 @@ Inv-loop bound lanes₀ sheet place₀ lanes place =
 abbrev μ-loop : tie.MeasureT-loop
 μ-loop bound lanes₀ sheet place₀ lanes place = sheet .«job_count» - place
 
--- the sheet keeps its ranges
-in-range : (c : tie.Start Inv-loop μ-loop) → Ranged (viewOf (c .args .t1))
-in-range c = ranged (viewOf (c .args .t1)) (c .pre .0)
-
 loop-holds : tie.Need-loop-holds Inv-loop μ-loop
 loop-holds c = (omega arith, refl, columns-none 32 _ _ _)
 
@@ -32,10 +28,10 @@ cast-one : tie.Need-cast-one Inv-loop μ-loop
 cast-one c = omega arith
 
 mul-one : tie.Need-mul-one Inv-loop μ-loop
-mul-one c = omega (arith, in-range (c .before .before .before) .jobs-high)
+mul-one c = omega (arith, ranged _ (c .before .before .before .pre .0) .jobs-high)
 
 element-copy-out-one : tie.Need-element-copy-out-one Inv-loop μ-loop
-element-copy-out-one c = omega (arith, in-range (c .before .before .before) .jobs-high)
+element-copy-out-one c = omega (arith, ranged _ (c .before .before .before .pre .0) .jobs-high)
 
 cast-put-pair : tie.Need-cast-put-pair Inv-loop μ-loop
 cast-put-pair c = omega arith
@@ -45,9 +41,9 @@ lift-of-requires c κs = c .before .before .before .before .before .pre .2
 
 put-pair-requires : tie.Need-put-pair-requires Inv-loop μ-loop
 put-pair-requires c κs =
-    let l = c .before .before .before .before in
-    let start = l .before .before in
-    (omega (arith, in-range start .jobs-high, c .before .before .before .loop-test .taken), omega (arith, l .loop .inv .1, start .pre .1))
+    let turn = c .before .before .before in
+    let start = turn .before .before .before in
+    (omega (arith, ranged _ (start .pre .0) .jobs-high, turn .loop-test .taken), omega (arith, turn .before .loop .inv .1, start .pre .1))
 
 add-place : tie.Need-add-place Inv-loop μ-loop
 add-place c = omega arith
@@ -57,28 +53,19 @@ loop-less c = omega arith
 
 loop-again : tie.Need-loop-again Inv-loop μ-loop
 loop-again c =
-    let l = c .before .before .before .before .before .before .before in
+    let turn = c .before .before .before .before .before .before in
+    let l = turn .before in
     let a = l .before .before .args in
-    let s = viewOf (a .t1) in
-    let one = job-counts (a .t1) (l .loop .place) (c .before .before .before .before .before .before .loop-test .taken) in
-    let put = c .before .before .put-pair .ensures in (
-      omega arith,
-      put .0 ∙ l .loop .inv .1,
-      put .1 (weightAt s) (λ j. liftOf (a .bound) (sizeAt s j) (deadlineAt s j)) (ap (λ (x : Job). x .weight) one)
-          (ap (λ (x : Job). liftOf (a .bound) (x .size) (x .deadline)) one ∙ sym (c .before .before .before .lift-of .ensures))
-          (l .loop .inv .2),
-    )
+    let one = job-counts (a .t1) (l .loop .place) (turn .loop-test .taken) in
+    let lift = ap (λ (x : Job). liftOf (a .bound) (x .size) (x .deadline)) one ∙ sym (c .before .before .before .lift-of .ensures) in
+    let put = c .before .before .put-pair .ensures in
+    (omega arith, put .0 ∙ l .loop .inv .1, put .1 _ _ (ap (λ (x : Job). x .weight) one) lift (l .loop .inv .2))
 
 same-length : tie.Need-same-length Inv-loop μ-loop
 same-length c = c .before .loop .inv .1
 
 returns : tie.Need-returns Inv-loop μ-loop
-returns c =
-    let l = c .before .loop in
-    let a = c .before .before .before .args in
-    let s = viewOf (a .t1) in
-    let all : l .place ≡ a .t1 .«job_count» = omega arith in
-    subst (λ (n : ℕ). Columns 32 n (weightAt s) (λ j. liftOf (a .bound) (sizeAt s j) (deadlineAt s j)) (l .lanes)) all (l .inv .2)
+returns c = columns-all (omega arith) (c .before .loop .inv .2)
 
 pub fill-entries-spec : {M : Type 1} → statement M
 fill-entries-spec =

@@ -1,17 +1,14 @@
 -- `put_lanes` meets its contract. The loop's invariant: the lanes of the entries passed stand there, and nothing else has changed.
 use Prim.Native.Nat.{_-_, _≤_}
-use mathlib.Core.Path.{_≡_, refl, sym, ap, _∙_, subst}
+use mathlib.Core.Path.{ap, _∙_}
 use native.Mathlib.Omega.{arith}
-use lib.ListN.{length}
 use Rattle.model.specs.View.{viewOf}
-use Rattle.model.specs.Queue.{queueIn, arrive}
-use Rattle.model.specs.declared.Job.{Job}
-use Rattle.model.proofs.Refusal.{Ranged, ranged}
-use Rattle.limits.proofs.Places.{job-counts}
+use Rattle.model.specs.Queue.{queueIn}
+use Rattle.model.proofs.Refusal.{ranged}
 use Rattle.buffers.specs.Fills.{Fills, numberAt}
-use Rattle.buffers.proofs.Filling.{number-local, fills-none, fills-more, fills-whole, number-stored}
+use Rattle.buffers.proofs.Filling.{fills-none, fills-whole, number-more}
 use Rattle.entry_lanes.specs.Lanes.{joined, laneOf}
-use Rattle.entry_lanes.proofs.Firsts.{joined-in}
+use Rattle.entry_lanes.proofs.Firsts.{size-upto, joined-in}
 use Rattle.entry_lanes.proofs.table.put_lanes.Statement.{statement}
 use Rattle.entry_lanes.proofs.table.put_lanes.Tie as tie
 
@@ -23,10 +20,6 @@ Inv-loop counts sizes queue at lanes₀ sheet place₀ lanes place =
 abbrev μ-loop : tie.MeasureT-loop
 μ-loop counts sizes queue at lanes₀ sheet place₀ lanes place = sheet .«job_count» - place
 
--- the sheet keeps its ranges
-in-range : (c : tie.Start Inv-loop μ-loop) → Ranged (viewOf (c .args .t2))
-in-range c = ranged (viewOf (c .args .t2)) (c .pre .2)
-
 loop-holds : tie.Need-loop-holds Inv-loop μ-loop
 loop-holds c = (omega arith, fills-none 1 numberAt _ (c .before .args .at) (c .before .args .lanes .now))
 
@@ -34,20 +27,17 @@ cast-one : tie.Need-cast-one Inv-loop μ-loop
 cast-one c = omega arith
 
 mul-one : tie.Need-mul-one Inv-loop μ-loop
-mul-one c = omega (arith, in-range (c .before .before .before) .jobs-high)
+mul-one c = omega (arith, ranged _ (c .before .before .before .pre .2) .jobs-high)
 
 element-copy-out-one : tie.Need-element-copy-out-one Inv-loop μ-loop
-element-copy-out-one c = omega (arith, in-range (c .before .before .before) .jobs-high)
+element-copy-out-one c = omega (arith, ranged _ (c .before .before .before .pre .2) .jobs-high)
 
 arrive-requires : tie.Need-arrive-requires Inv-loop μ-loop
 arrive-requires c κs =
-    let start = c .before .before .before .before in
-    let place = c .before .before .loop .place in
-    let low = c .before .loop-test .taken in (
-      start .pre .1 .ranges .bound-high,
-      subst (λ (x : Job). x .size ≤ 255) (job-counts (start .args .t2) place low) (in-range start .size-high place low),
-      start .pre .3,
-    )
+    let l = c .before .before in
+    let start = l .before .before in
+    let small = size-upto (start .args .t2) (l .loop .place) (start .pre .2) (c .before .loop-test .taken) in
+    (start .pre .1 .ranges .bound-high, small, start .pre .3)
 
 lane-of-requires : tie.Need-lane-of-requires Inv-loop μ-loop
 lane-of-requires c κs = (c .before .before .before .before .before .pre .0, c .before .before .before .before .before .pre .1)
@@ -56,18 +46,15 @@ cast-lanes : tie.Need-cast-lanes Inv-loop μ-loop
 cast-lanes c = omega arith
 
 add-lanes : tie.Need-add-lanes Inv-loop μ-loop
-add-lanes c =
-    omega (
-      arith,
-      c .before .before .before .before .before .before .good .1 .1 .1 .1 .1 .0 .0,
-      c .before .before .before .before .before .before .pre .4,
-    )
+add-lanes c = let start = c .before .before .before .before .before .before in omega (arith, start .good, start .pre .4)
 
 mul-lanes : tie.Need-mul-lanes Inv-loop μ-loop
 mul-lanes c = omega arith
 
 slice-write-lanes : tie.Need-slice-write-lanes Inv-loop μ-loop
-slice-write-lanes c = omega (arith, c .before .before .before .before .loop .inv .1 .same-length, c .before .before .before .before .before .before .pre .4)
+slice-write-lanes c =
+    let l = c .before .before .before .before in
+    omega (arith, l .loop .inv .1 .same-length, l .before .before .pre .4)
 
 add-place : tie.Need-add-place Inv-loop μ-loop
 add-place c = omega arith
@@ -77,22 +64,14 @@ loop-less c = omega arith
 
 loop-again : tie.Need-loop-again Inv-loop μ-loop
 loop-again c =
-    let l = c .before .before .before .before in
+    let turn = c .before .before .before in
+    let l = turn .before in
     let start = l .before .before in
     let a = start .args in
-    let w = queueIn (a .sizes .bound) (a .queue) in
-    let six : length (a .queue) ≡ 6 = omega (arith, start .good) in (
-      omega arith,
-      fills-more 1 numberAt number-local refl
-          (c .lane-of .ensures ∙
-          ap (laneOf (a .sizes .largest))
-          (joined-in (a .sizes .bound) (a .queue) _ _ (start .pre .1 .ranges .bound-high)
-          (omega (arith, start .pre .1 .ranges .bound-high, six)) (c .before .arrive .ensures) ∙
-          ap (λ (x : Job). arrive w (x .size) (x .deadline))
-          (sym (job-counts (a .t2) (l .loop .place) (c .before .before .before .loop-test .taken)))))
-          (l .loop .inv .1)
-          (number-stored (l .loop .lanes) _ _ (omega (arith, l .loop .inv .1 .same-length, start .pre .4))),
-    )
+    let joined = joined-in (a .t2) (a .sizes .bound) (a .queue) (l .loop .place) (start .pre .1 .ranges .bound-high)
+    (omega (arith, start .good)) (turn .loop-test .taken) (c .before .arrive .ensures) in
+    let lane = c .lane-of .ensures ∙ ap (laneOf (a .sizes .largest)) joined in
+    (omega arith, number-more (omega (arith, start .pre .4)) lane (l .loop .inv .1))
 
 same-length : tie.Need-same-length Inv-loop μ-loop
 same-length c = c .before .loop .inv .1 .same-length

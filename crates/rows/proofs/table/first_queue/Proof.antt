@@ -1,13 +1,10 @@
 -- `first_queue` meets its contract: the queue of one position fewer, and its last total written behind it.
-use mathlib.Core.Path.{sym, ap, _∙_, subst}
-use Prim.Native.Nat.{ℕ, _<_}
+use Prim.Native.Nat.{_<_}
 use native.Mathlib.Omega.{arith}
 use borrow.Author.Needs.{needs}
-use Rattle.model.specs.Queue.{placesOf, queueCount}
+use Rattle.model.specs.Queue.{queueCount}
 use Rattle.model.proofs.Queues.{listed-bearable}
 use Rattle.queues.specs.Blocks.{queueWith}
-use Rattle.queues.specs.Order.{Ranges}
-use Rattle.slot.specs.Slot.{lastTwice}
 use Rattle.rows.proofs.LastTwice.{twice-places}
 use Rattle.sheets.proofs.Measures.{ranges-fewer}
 use Rattle.rows.proofs.table.first_queue.Statement.{statement}
@@ -18,11 +15,10 @@ one-fewer-requires c κs = search needs
 
 -- the block's number is one of a queue of so many positions as the code works out
 within : (c : tie.After-one-fewer) → c .before .args .block < queueCount (c .before .args .largest) (c .one-fewer .result)
-within c = subst (λ (d : ℕ). c .before .args .block < queueCount (c .before .args .largest) d) (sym (c .one-fewer .ensures)) (c .before .pre .2)
+within c = rw (c .one-fewer .ensures) (c .before .pre .2)
 
 queue-at-requires : tie.Need-queue-at-requires
-queue-at-requires c κs =
-    (c .before .pre .0, subst (Ranges (c .before .args .largest)) (sym (c .one-fewer .ensures)) (ranges-fewer (c .before .pre .1)), within c)
+queue-at-requires c κs = (c .before .pre .0, rw (c .one-fewer .ensures) (ranges-fewer (c .before .pre .1)), within c)
 
 total-requires : tie.Need-total-requires
 total-requires c κs = search needs
@@ -37,10 +33,10 @@ returns : tie.Need-returns
 returns c =
     let fewer = c .before .before in
     let a = fewer .before .args in
-    twice-places (fewer .one-fewer .result) (queueWith (a .largest) (fewer .one-fewer .result) (a .block))
-    (omega (arith, fewer .one-fewer .ensures, fewer .before .pre .1 .bound-high))
-    (listed-bearable (a .largest) (fewer .one-fewer .result) (a .block) (within fewer) .0) (c .before .queue-at .ensures) (c .total .ensures) ∙
-    ap (λ (d : ℕ). placesOf (lastTwice (queueWith (a .largest) d (a .block)))) (fewer .one-fewer .ensures)
+    let d = fewer .one-fewer .result in
+    rw (← fewer .one-fewer .ensures)
+    (twice-places d (queueWith (a .largest) d (a .block)) (omega (arith, fewer .one-fewer .ensures, fewer .before .pre .1 .bound-high))
+    (listed-bearable (a .largest) d (a .block) (within fewer) .0) (c .before .queue-at .ensures) (c .total .ensures))
 
 pub first-queue-spec : {M : Type 1} → statement M
 first-queue-spec =

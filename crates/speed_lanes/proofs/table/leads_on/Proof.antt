@@ -2,8 +2,7 @@
 use mathlib.Core.Path.{sym, ap, _∙_}
 use native.Mathlib.Omega.{arith}
 use borrow.Author.Needs.{needs}
-use Rattle.model.specs.Queue.{Queue, queueIn, bearable}
-use Rattle.slot.proofs.Places.{total-in}
+use Rattle.model.specs.Queue.{bearable}
 use Rattle.speed_lanes.proofs.Lanes.{after-places, leads-slow, leads-fast}
 use Rattle.speed_lanes.proofs.table.leads_on.Statement.{statement}
 use Rattle.speed_lanes.proofs.table.leads_on.Tie as tie
@@ -14,10 +13,7 @@ array-read-if1 c = search needs
 returns : tie.Need-returns
 returns c =
     let a = c .before .args in
-    let m = c .before .pre in
-    sym
-    (leads-slow (a .sizes .largest) (a .sizes .bound) (queueIn (a .sizes .bound) (a .t2)) (a .speed)
-    (omega (arith, total-in (a .sizes .bound) (a .t2) 1 (m .bound-low), c .if1 .taken)))
+    sym (leads-slow (a .sizes .largest) (a .sizes .bound) (a .t2) (a .speed) (c .before .pre .bound-low) (c .if1 .taken))
 
 after-requires : tie.Need-after-requires
 after-requires c κs = search needs
@@ -30,16 +26,15 @@ bearable-requires c κs = search needs
 
 returns-2 : tie.Need-returns-2
 returns-2 c =
-    let start = c .before .before .before .before in
+    let left = c .before .before in
+    let start = left .before .before in
     let a = start .args in
     let m = start .pre in
+    let M = a .sizes .largest in
+    let D = a .sizes .bound in
     c .bearable .ensures ∙
-    ap (λ (q : Queue). bearable (a .sizes .largest) q)
-    (after-places (a .sizes .bound) (a .t2) (a .speed) (m .bound-low) (m .ranges .bound-high) (omega arith)
-    (c .before .before .after .ensures)) ∙
-    sym
-    (leads-fast (a .sizes .largest) (a .sizes .bound) (queueIn (a .sizes .bound) (a .t2)) (a .speed)
-    (omega (arith, total-in (a .sizes .bound) (a .t2) 1 (m .bound-low), c .before .before .before .if1 .left)))
+    ap (bearable M) (after-places D (a .t2) (a .speed) (m .bound-low) (m .ranges .bound-high) (omega arith) (left .after .ensures)) ∙
+    sym (leads-fast M D (a .t2) (a .speed) (m .bound-low) (omega (arith, left .before .if1 .left)))
 
 pub leads-on-spec : {M : Type 1} → statement M
 leads-on-spec =

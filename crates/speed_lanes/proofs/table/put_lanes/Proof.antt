@@ -1,14 +1,14 @@
 -- `put_lanes` meets its contract. The loop's invariant: the lanes of the speeds passed stand there, and nothing else has changed.
 use Prim.Native.Nat.{_-_, _≤_}
-use mathlib.Core.Path.{refl, sym, ap, _∙_}
+use mathlib.Core.Path.{sym, ap, _∙_}
 use native.Mathlib.Omega.{arith}
 use Rattle.model.specs.View.{viewOf, speedAt}
 use Rattle.model.specs.Queue.{queueIn}
 use Rattle.model.specs.declared.Speed.{Speed}
-use Rattle.model.proofs.Refusal.{Ranged, ranged}
+use Rattle.model.proofs.Refusal.{ranged}
 use Rattle.limits.proofs.Places.{speed-counts}
 use Rattle.buffers.specs.Fills.{Fills, numberAt}
-use Rattle.buffers.proofs.Filling.{number-local, fills-none, fills-more, fills-whole, number-stored}
+use Rattle.buffers.proofs.Filling.{fills-none, fills-whole, number-more}
 use Rattle.speed_lanes.specs.Lanes.{laneOf}
 use Rattle.speed_lanes.proofs.table.put_lanes.Statement.{statement}
 use Rattle.speed_lanes.proofs.table.put_lanes.Tie as tie
@@ -22,10 +22,6 @@ Inv-loop counts sizes queue at lanes₀ sheet place₀ lanes place =
 abbrev μ-loop : tie.MeasureT-loop
 μ-loop counts sizes queue at lanes₀ sheet place₀ lanes place = sheet .«speed_count» - place
 
--- the sheet keeps its ranges
-in-range : (c : tie.Start Inv-loop μ-loop) → Ranged (viewOf (c .args .t2))
-in-range c = ranged (viewOf (c .args .t2)) (c .pre .2)
-
 loop-holds : tie.Need-loop-holds Inv-loop μ-loop
 loop-holds c = (omega arith, fills-none 1 numberAt _ (c .before .args .at) (c .before .args .lanes .now))
 
@@ -33,10 +29,10 @@ cast-one : tie.Need-cast-one Inv-loop μ-loop
 cast-one c = omega arith
 
 mul-one : tie.Need-mul-one Inv-loop μ-loop
-mul-one c = omega (arith, in-range (c .before .before .before) .speeds-high)
+mul-one c = omega (arith, ranged _ (c .before .before .before .pre .2) .speeds-high)
 
 element-copy-out-one : tie.Need-element-copy-out-one Inv-loop μ-loop
-element-copy-out-one c = omega (arith, in-range (c .before .before .before) .speeds-high)
+element-copy-out-one c = omega (arith, ranged _ (c .before .before .before .pre .2) .speeds-high)
 
 lane-of-requires : tie.Need-lane-of-requires Inv-loop μ-loop
 lane-of-requires c κs = (c .before .before .before .before .pre .0, c .before .before .before .before .pre .1)
@@ -45,12 +41,7 @@ cast-lanes : tie.Need-cast-lanes Inv-loop μ-loop
 cast-lanes c = omega arith
 
 add-lanes : tie.Need-add-lanes Inv-loop μ-loop
-add-lanes c =
-    omega (
-      arith,
-      c .before .before .before .before .before .good .1 .1 .1 .1 .1 .0 .0,
-      c .before .before .before .before .before .pre .3,
-    )
+add-lanes c = let start = c .before .before .before .before .before in omega (arith, start .good, start .pre .3)
 
 mul-lanes : tie.Need-mul-lanes Inv-loop μ-loop
 mul-lanes c = omega arith
@@ -66,17 +57,13 @@ loop-less c = omega arith
 
 loop-again : tie.Need-loop-again Inv-loop μ-loop
 loop-again c =
-    let l = c .before .before .before in
+    let turn = c .before .before in
+    let l = turn .before in
     let start = l .before .before in
-    let a = start .args in (
-      omega arith,
-      fills-more 1 numberAt number-local refl
-          (c .lane-of .ensures ∙
-          ap (λ (x : Speed). laneOf (a .sizes .largest) (a .sizes .bound) (queueIn (a .sizes .bound) (a .queue)) (x .speed))
-          (sym (speed-counts (a .t2) (l .loop .place) (c .before .before .loop-test .taken))))
-          (l .loop .inv .1)
-          (number-stored (l .loop .lanes) _ _ (omega (arith, l .loop .inv .1 .same-length, start .pre .3))),
-    )
+    let a = start .args in
+    let lane = ap (λ (x : Speed). laneOf (a .sizes .largest) (a .sizes .bound) (queueIn (a .sizes .bound) (a .queue)) (x .speed))
+    (speed-counts (a .t2) (l .loop .place) (turn .loop-test .taken)) in
+    (omega arith, number-more (omega (arith, start .pre .3)) (c .lane-of .ensures ∙ sym lane) (l .loop .inv .1))
 
 same-length : tie.Need-same-length Inv-loop μ-loop
 same-length c = c .before .loop .inv .1 .same-length

@@ -7,7 +7,7 @@ use Rattle.model.specs.View.{viewOf, speedAt}
 use Rattle.model.specs.Queue.{queueIn}
 use Rattle.model.specs.Tests.{firstPlace}
 use Rattle.model.specs.declared.Speed.{Speed}
-use Rattle.model.proofs.Refusal.{Ranged, ranged}
+use Rattle.model.proofs.Refusal.{ranged}
 use Rattle.model.proofs.Tests.{first-found, first-more}
 use Rattle.limits.proofs.Places.{speed-counts}
 use Rattle.speed_lanes.specs.Lanes.{leadsOn}
@@ -22,10 +22,6 @@ Inv-loop sizes queue sheet place₀ place =
 abbrev μ-loop : tie.MeasureT-loop
 μ-loop sizes queue sheet place₀ place = sheet .«speed_count» - place
 
--- the sheet keeps its ranges
-in-range : (c : tie.Start Inv-loop μ-loop) → Ranged (viewOf (c .args .t1))
-in-range c = ranged (viewOf (c .args .t1)) (c .pre .1)
-
 -- of no speeds none leads on
 none : (test : ℕ → Bool) → firstPlace test 0 ≡ 0
 unfolding firstPlace
@@ -35,8 +31,8 @@ none test = refl
 asked : (c : tie.After-leads-on Inv-loop μ-loop) →
     let l = c .before .before .before in
     let a = l .before .args in
-    leadsOn (a .sizes .largest) (a .sizes .bound) (queueIn (a .sizes .bound) (a .queue)) (speedAt (viewOf (a .t1)) (l .loop .place)) ≡
-    c .leads-on .result
+    let s = viewOf (a .t1) in
+    leadsOn (a .sizes .largest) (a .sizes .bound) (queueIn (a .sizes .bound) (a .queue)) (speedAt s (l .loop .place)) ≡ c .leads-on .result
 asked c =
     let l = c .before .before .before in
     let a = l .before .args in
@@ -51,23 +47,20 @@ cast-one : tie.Need-cast-one Inv-loop μ-loop
 cast-one c = omega arith
 
 mul-one : tie.Need-mul-one Inv-loop μ-loop
-mul-one c = omega (arith, in-range (c .before .before) .speeds-high)
+mul-one c = omega (arith, ranged _ (c .before .before .pre .1) .speeds-high)
 
 element-copy-out-one : tie.Need-element-copy-out-one Inv-loop μ-loop
-element-copy-out-one c = omega (arith, in-range (c .before .before) .speeds-high)
+element-copy-out-one c = omega (arith, ranged _ (c .before .before .pre .1) .speeds-high)
 
 leads-on-requires : tie.Need-leads-on-requires Inv-loop μ-loop
 leads-on-requires c κs = c .before .before .before .pre .0
 
 returns : tie.Need-returns Inv-loop μ-loop
 returns c =
-    let l = c .before .before .before .before in
-    let start = l .before in
-    let a = start .args in
-    sym
-    (first-found (λ j. leadsOn (a .sizes .largest) (a .sizes .bound) (queueIn (a .sizes .bound) (a .queue)) (speedAt (viewOf (a .t1)) j))
-    (l .loop .place)
-    (a .t1 .«speed_count») (l .loop .inv .1) (asked (c .before) ∙ c .if1 .taken) (c .before .before .before .loop-test .taken))
+    let turn = c .before .before .before in
+    let l = turn .before in
+    let count = l .before .args .t1 .«speed_count» in
+    sym (first-found _ (l .loop .place) count (l .loop .inv .1) (asked (c .before) ∙ c .if1 .taken) (turn .loop-test .taken))
 
 add-place : tie.Need-add-place Inv-loop μ-loop
 add-place c = omega arith
@@ -77,22 +70,14 @@ loop-less c = omega arith
 
 loop-again : tie.Need-loop-again Inv-loop μ-loop
 loop-again c =
-    let l = c .before .before .before .before in
-    let a = l .before .args in (
-      omega arith,
-      first-more (λ j. leadsOn (a .sizes .largest) (a .sizes .bound) (queueIn (a .sizes .bound) (a .queue)) (speedAt (viewOf (a .t1)) j))
-          (l .loop .place)
-          (l .loop .inv .1) (asked (c .before) ∙ c .if1 .left),
-    )
+    let l = c .before .before .before .before .loop in
+    (omega arith, first-more _ (l .place) (l .inv .1) (asked (c .before) ∙ c .if1 .left))
 
 returns-2 : tie.Need-returns-2 Inv-loop μ-loop
 returns-2 c =
     let l = c .before .loop in
-    let a = c .before .before .args in
-    let all : l .place ≡ a .t1 .«speed_count» = omega arith in
-    sym (l .inv .1) ∙
-    ap (firstPlace (λ j. leadsOn (a .sizes .largest) (a .sizes .bound) (queueIn (a .sizes .bound) (a .queue))
-    (speedAt (viewOf (a .t1)) j))) all
+    let all : l .place ≡ c .before .before .args .t1 .«speed_count» = omega arith in
+    sym (l .inv .1) ∙ ap (firstPlace _) all
 
 pub slowest-spec : {M : Type 1} → statement M
 slowest-spec =
