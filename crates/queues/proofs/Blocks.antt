@@ -20,7 +20,7 @@ use Rattle.queues.specs.Order.{earlierAt}
 use Rattle.slot.specs.Slot.{lastTwice}
 use Rattle.queues.proofs.Numbering.{number-sum}
 use Rattle.slot.proofs.Places.{total-in}
-use Rattle.slot.proofs.Slots.{length-twice, total-twice, last-twice, bearable-twice}
+use Rattle.slot.proofs.Slots.{length-twice, total-twice, bearable-twice}
 
 -- how far a number rises
 
