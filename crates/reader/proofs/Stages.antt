@@ -139,10 +139,6 @@ memory-counts D T speeds jobs e m =
     let right = ranged s e in
     rw m (view-in-memory s (record { speeds-counted = refl; jobs-counted = refl }) (right .speeds-high) (right .jobs-high))
 
--- a sheet that is zero but for these tables
-abbrev pub zeroWith : List Speed → List Job → Sheet
-zeroWith speeds jobs = record { bound = 0; «speed_count» = 0; speeds = speeds; horizon = 0; «job_count» = 0; jobs = jobs }
-
 -- a refusal gives the all-zero sheet
 pub given-zero : (memory : Sheet) {number k : ℕ} {sheet : Sheet} → number ≡ k → (k ≡ 0 → ⊥) → sheet ≡ zeroSheet → sheet ≡ sheetGiven number memory
 given-zero memory {number = zero} e some z = absurd (some (sym e))
