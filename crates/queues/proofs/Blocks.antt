@@ -79,7 +79,7 @@ earlier-last : (M : ℕ) (v : Queue) (n : ℕ) → length v ≡ suc n → earlie
 unfolding earlierAt continuationCount
 earlier-last M v n e = let none : length v - suc n ≡ 0 = omega arith in rw none (count-ones _)
 
--- at the last but one, whose slacks end at 0, it is so many sums of the last totals that each of the totals there leaves
+-- at the last but one it is how far the number rises in as many steps as the total there is above the one before
 earlier-next : (M : ℕ) (v : Queue) (n : ℕ) → length v ≡ suc (suc n) → total v n ≤ total v (suc n) → total v (suc n) ≤ suc n * M →
     earlierAt M v n ≡ risen (suc (suc n) * M + 1 - total v n) (total v (suc n) - total v n)
 unfolding earlierAt continuationCount
