@@ -29,7 +29,8 @@ place-passed y x q [] rest h = sym (zero-add (placeIn rest (x ∷ q)))
 place-passed y x q (v ∷ l) rest h = rw (ne-eqb y x h) (omega (arith, place-passed y x q l rest h))
 
 -- among queues that begin with its own total a queue stands where the rest of it stands
-place-among : (x : ℕ) (q : Queue) (l rest : List Queue) → placeIn l q < length l → placeIn (map (λ v. x ∷ v) l ++ rest) (x ∷ q) ≡ placeIn l q
+place-among : (x : ℕ) (q : Queue) (l rest : List Queue) → placeIn l q < length l →
+    placeIn (map (λ v. x ∷ v) l ++ rest) (x ∷ q) ≡ placeIn l q
 unfolding placeIn same
 place-among x q [] rest h = absurd (not-suc-le-zero h)
 place-among x q (v ∷ l) rest h = rw (eq-eqb x x refl) (go (place-among x q l rest) (same v q) h)
@@ -77,7 +78,8 @@ rest-found : (M : ℕ) (w : Queue) → T (bearable M w) → (u r : ℕ) → u + 
 rest-found M w t u r e =
     let left : length (drop u w) ≡ r = simp length-drop (omega arith) in
     let slack : total w u + (u * M - total w u) ≡ u * M = omega (arith, bearable-upto M w t u (omega arith)) in
-    let goes : GoesOn M u (total w u) (drop u w) = λ i h. rw (total-drop w u i, getD-drop u w i 0) (bearable-at M w t (u + i) (omega arith)) in
+    let goes : GoesOn M u (total w u) (drop u w) = λ i h.
+    rw (total-drop w u i, getD-drop u w i 0) (bearable-at M w t (u + i) (omega arith)) in
     place-found (drop u w) (continuations M r (total w u) (u * M - total w u))
     (rw (← left) (continuations-in M u (total w u) (u * M - total w u) (drop u w) slack goes)) .0
 
@@ -169,8 +171,8 @@ unfolding continuationCount
 queues-none M D e = rw (e, queue-count)
 
 -- the slacks 0 to M at the first position are in the table
-pub queues-needed : (M D : ℕ) → Ranges M D → (D ≡ 0 → ⊥) → (j : ℕ) → j < M + 1 → InTable M (D - 1) (0 + j)
-queues-needed M D n h j l = in-table 0 (D - 1) n (omega arith) (omega arith)
+pub queues-needed : {M D : ℕ} → Ranges M D → (D ≡ 0 → ⊥) → (j : ℕ) → j < M + 1 → InTable M (D - 1) (0 + j)
+queues-needed {D = D} n h j l = in-table 0 (D - 1) n (omega arith) (omega arith)
 
 -- and N is the sum of their counts
 pub queues-counted : (M D : ℕ) → (D ≡ 0 → ⊥) → sum (λ j. continuationCount M (D - 1) (0 + j)) (M + 1) ≡ queueCount M D

@@ -99,8 +99,8 @@ unfolding read
 given-by at s zero m g e = record { number-is = rw e; sheet-is = rw e (g ∙ m) }
 given-by at s (suc k) m g e = read-refused e (refl, g)
 
-pub read-judged : {bytes : List ℕ} (at : ℕ) (s : View) {number : ℕ} {memory sheet : Sheet} → readView N bytes 0 ≡ atEnd s bytes at → length bytes ≤ at →
-    number ≡ limitsRefusal valueLimit (N s) s → memory ≡ inMemory s → sheet ≡ sheetGiven number memory → IsRead bytes number sheet
+pub read-judged : {bytes : List ℕ} (at : ℕ) (s : View) {number : ℕ} {memory sheet : Sheet} → readView N bytes 0 ≡ atEnd s bytes at →
+    length bytes ≤ at → number ≡ limitsRefusal valueLimit (N s) s → memory ≡ inMemory s → sheet ≡ sheetGiven number memory → IsRead bytes number sheet
 unfolding atEnd judged
 read-judged {bytes} at s {number} e h n m g = given-by at s number m g (rw (le-leb (length bytes) at h, ← n) at e)
 
@@ -140,6 +140,7 @@ memory-counts D T speeds jobs e m =
     rw m (view-in-memory s (record { speeds-counted = refl; jobs-counted = refl }) (right .speeds-high) (right .jobs-high))
 
 -- a refusal gives the all-zero sheet
-pub given-zero : (memory : Sheet) {number k : ℕ} {sheet : Sheet} → number ≡ k → (k ≡ 0 → ⊥) → sheet ≡ zeroSheet → sheet ≡ sheetGiven number memory
+pub given-zero : (memory : Sheet) {number k : ℕ} {sheet : Sheet} → number ≡ k → (k ≡ 0 → ⊥) → sheet ≡ zeroSheet →
+    sheet ≡ sheetGiven number memory
 given-zero memory {number = zero} e some z = absurd (some (sym e))
 given-zero memory {number = suc number} e some z = z

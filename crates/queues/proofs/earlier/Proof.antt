@@ -48,8 +48,8 @@ sub-sum-of-counts-3 c = omega (arith, c .total .ensures, known (c .before) .0)
 
 sum-of-counts-requires : tie.Need-sum-of-counts-requires
 sum-of-counts-requires c κs =
-    let given = c .before in
-    (given .pre .0, λ j h. position-needed (given .pre .2) (omega arith) (given .args .u) (given .pre .1) j (omega (arith, c .total .ensures)))
+    let (holds, low, numbered) = c .before .pre in
+    (holds, λ j h. position-needed numbered (omega arith) (c .before .args .u) low j (omega (arith, c .total .ensures)))
 
 returns : tie.Need-returns
 returns c =

@@ -22,12 +22,8 @@ loop-holds c = (omega arith, refl)
 
 add-count : tie.Need-add-count Inv-loop μ-loop
 add-count c =
-    let given = c .before .before in
-    let needed = given .pre .1 (c .before .loop .j) (c .loop-test .taken) in
-    omega (
-      arith,
-      slack-small (given .args .largest) (given .args .left) (given .args .slack + c .before .loop .j) (needed .speed-high) (needed .slack-high),
-    )
+    let needed = c .before .before .pre .1 (c .before .loop .j) (c .loop-test .taken) in
+    omega (arith, slack-small _ _ _ (needed .speed-high) (needed .slack-high))
 
 count-requires : tie.Need-count-requires Inv-loop μ-loop
 count-requires c κs = (c .before .before .pre .0, c .before .before .pre .1 (c .before .loop .j) (c .loop-test .taken))
@@ -41,7 +37,7 @@ add-all c =
       arith,
       c .count .ensures,
       c .before .before .loop .inv .1,
-      counts-small (given .args .largest) (given .args .left) (given .args .slack) (given .args .n) (given .pre .1) (suc j) (omega arith),
+      counts-small _ _ _ _ (given .pre .1) (suc j) (omega arith),
     )
 
 add-j : tie.Need-add-j Inv-loop μ-loop

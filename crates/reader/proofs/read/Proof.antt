@@ -94,8 +94,8 @@ abbrev job-table : JobsRead → JobTable
 job-table c = c .before .before .job-table-at .result
 
 jobs-given : (c : JobsRead) →
-    Given jobPlaces (readJobTable (bound (start c)) (bytes (start c)) (after-horizon (with-horizon c))) (job-table c .count) (job-table c .jobs)
-    (job-table c .next)
+    Given jobPlaces (readJobTable (bound (start c)) (bytes (start c)) (after-horizon (with-horizon c)))
+    (job-table c .count) (job-table c .jobs) (job-table c .next)
 jobs-given c = table-given jobPlaces _ (job-table c .number) _ _ _ (c .before .before .job-table-at .ensures) (c .if4 .left)
 
 -- the sheet that was read

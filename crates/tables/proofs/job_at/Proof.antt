@@ -13,8 +13,8 @@ weight-passed : (c : tie.Else1) →
     let weight = c .before .before .before .answer .given .0 in
     readJob (a .bound) (now (a .bytes)) (a .at) ≡ afterWeight (a .bound) (weight .0) (now (a .bytes)) (weight .1 .0)
 weight-passed c =
-    field-passes (at-weight _) (c .before .before .before .before .before .field-at .ensures) (c .before .before .before .answer .given .1)
-    (c .before .weight-right .ensures) (c .if1 .left)
+    field-passes (at-weight _) (c .before .before .before .before .before .field-at .ensures)
+    (c .before .before .before .answer .given .1) (c .before .weight-right .ensures) (c .if1 .left)
 
 -- and so was the size: the deadline is next
 size-passed : (c : tie.Else2) →
@@ -25,8 +25,8 @@ size-passed : (c : tie.Else2) →
     readJob (a .bound) (now (a .bytes)) (a .at) ≡ afterSize (a .bound) (weight .0) (size .0) (now (a .bytes)) (size .1 .0)
 size-passed c =
     weight-passed (c .before .before .before .before .before .before) ∙
-    field-passes (at-size _ _) (c .before .before .before .before .before .field-at2 .ensures) (c .before .before .before .answer2 .given .1)
-    (c .before .size-right .ensures) (c .if2 .left)
+    field-passes (at-size _ _) (c .before .before .before .before .before .field-at2 .ensures)
+    (c .before .before .before .answer2 .given .1) (c .before .size-right .ensures) (c .if2 .left)
 
 field-at-requires : tie.Need-field-at-requires
 field-at-requires c κs = search needs
