@@ -3,7 +3,7 @@
 use Prim.Native.Nat.{ℕ, zero, suc, pred, _+_, _-_, _*_, _≤_, _<_, zero-le}
 use mathlib.Core.Path.{_≡_, refl, sym, ap, _∙_}
 use mathlib.Core.List.{[], _∷_, _++_}
-use mathlib.Core.Logic.{_⊎_, inl, inr}
+use mathlib.Core.Logic.{⊎-elim}
 use native.Mathlib.Nat.{zero-mul, add-zero, add-suc, suc-mul, not-suc-le-zero, eq-or-lt-of-le, le-refl, zero-lt-suc}
 use native.Mathlib.Numerals.{add-one}
 use native.Mathlib.Omega.{arith}
@@ -150,14 +150,15 @@ bearable-first M d w short t =
 
 -- a queue of the block is bearable up to the last bearable total
 pub bearable-with : (M d : ℕ) (v w : Queue) → Alike d v w → T (bearable M v) → total v d ≤ total w d → total w d ≤ d * M → T (bearable M w)
-bearable-with M d v w a t low high = bearable-all M w (λ i h. let l : i < d = omega (arith, a .long-too) in each i l (eq-or-lt-of-le l))
-  where
-    each : (i : ℕ) → i < d → (suc i ≡ d) ⊎ (suc i < d) → (total w i ≤ total w (suc i)) × (total w (suc i) ≤ suc i * M)
-    each i l (inl e) =
-        let at = bearable-at M v t i (omega (arith, a .long)) in
-        let here = ap (total w) e in
-        (omega (arith, a .same i l, ap (total v) e), omega (arith, ap (λ (k : ℕ). k * M) e))
-    each i l (inr m) = rw (← a .same i l, ← a .same (suc i) m) (bearable-at M v t i (omega (arith, a .long)))
+bearable-with M d v w a t low high =
+    bearable-all M w
+    (λ i h. let l : i < d = omega (arith, a .long-too) in
+    let at = bearable-at M v t i (omega (arith, a .long)) in
+    ⊎-elim
+    (λ e. let here = ap (total w) e in
+    (omega (arith, a .same i l, ap (total v) e), omega (arith, ap (λ (k : ℕ). k * M) e)))
+    (λ m. rw (← a .same i l, ← a .same (suc i) m) at)
+    (eq-or-lt-of-le l))
 
 -- a block, by its number
 

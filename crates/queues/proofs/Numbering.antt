@@ -48,20 +48,15 @@ place-each : (f : ℕ → ℕ → List Queue) (n : ℕ → ℕ) → ((t g : ℕ)
 unfolding eachTotal sum
 place-each f n e x k q h y zero low s = absurd (omega arith)
 place-each f n e x k q h y (suc c) low s =
-    ⊎-elim here (further (λ l. place-each f n e x k q h (suc y) c l (omega arith))) (eq-or-lt-of-le low)
-  where
-    here : y ≡ x → placeIn (eachTotal f y (suc c)) (x ∷ q) ≡ sum (λ j. n (suc k + j)) (x - y) + placeIn (f x k) q
-    here d =
-        let last : c ≡ k = omega arith in
-        let none : x - x ≡ 0 = omega arith in
-        rw (d, last, none, zero-add) (place-among x q (f x k) (eachTotal f (suc x) k) h)
-
-    further : (y < x → placeIn (eachTotal f (suc y) c) (x ∷ q) ≡ sum (λ j. n (suc k + j)) (x - suc y) + placeIn (f x k) q) →
-        y < x → placeIn (eachTotal f y (suc c)) (x ∷ q) ≡ sum (λ j. n (suc k + j)) (x - y) + placeIn (f x k) q
-    further ih l =
-        let slack : suc k + (x - suc y) ≡ c = omega arith in
-        let one : x - y ≡ suc (x - suc y) = omega arith in
-        rw (place-passed y x q (f y c) (eachTotal f (suc y) c) (λ d. omega arith), one, slack, e y c) (omega (arith, ih l))
+    ⊎-elim
+    (λ (d : y ≡ x). let last : c ≡ k = omega arith in
+    let none : x - x ≡ 0 = omega arith in
+    rw (d, last, none, zero-add) (place-among x q (f x k) (eachTotal f (suc x) k) h))
+    (λ (l : y < x). let rest = place-each f n e x k q h (suc y) c l (omega arith) in
+    let slack : suc k + (x - suc y) ≡ c = omega arith in
+    let one : x - y ≡ suc (x - suc y) = omega arith in
+    rw (place-passed y x q (f y c) (eachTotal f (suc y) c) (λ d. omega arith), one, slack, e y c) (omega arith))
+    (eq-or-lt-of-le low)
 
 -- the totals from w(u) on
 total-drop : (w : Queue) (u i : ℕ) → getD (total w u ∷ drop u w) i 0 ≡ total w (u + i)

@@ -85,25 +85,24 @@ arrive-not-bearable M w c d rises t =
       ),
     ))
 
+-- where no total of a queue up to its last position is above 48, none is
+small-within : (w : Queue) → ((u : ℕ) → 1 ≤ u → u ≤ length w → total w u ≤ 48) → Small w
+small-within w each zero = zero-le
+small-within w each (suc i) = go (leb (suc i) (length w)) refl
+  where
+    go : (b : Bool) → leb (suc i) (length w) ≡ b → total w (suc i) ≤ 48
+    go true e = each (suc i) (omega arith) (leb-true (suc i) (length w) e)
+    go false e = omega (arith, total-past w (suc i) (leb-false (suc i) (length w) e))
+
 -- no total of a bearable queue is above 48, so that a job can be added to it
 pub bearable-small : (M : ℕ) (w : Queue) → M ≤ 8 → length w ≤ 6 → T (bearable M w) → Small w
-bearable-small M w high few t u = go (leb u (length w)) refl
-  where
-    go : (b : Bool) → leb u (length w) ≡ b → total w u ≤ 48
-    go true e =
-        let within : u ≤ length w = leb-true u (length w) e in
-        let short : u ≤ 6 = omega arith in
-        omega (arith, bearable-upto M w t u within, mul-le-mul short high)
-    go false e = omega (arith, total-past w u (leb-false u (length w) e))
+bearable-small M w high few t =
+    small-within w
+    (λ u low h. let short : u ≤ 6 = omega arith in
+    omega (arith, bearable-upto M w t u h, mul-le-mul short high))
 
 -- nor is one after a slot above 48 where none was
 pub run-small : (w : Queue) (s : ℕ) → Small w → Small (run w s)
-run-small w s small zero = zero-le
-run-small w s small (suc i) = go (leb (suc i) (length w)) refl
-  where
-    go : (b : Bool) → leb (suc i) (length w) ≡ b → total (run w s) (suc i) ≤ 48
-    go true e =
-        let next = min (suc (suc i)) (length w) in
-        omega (arith, total-run w s (suc i) (omega arith) (leb-true (suc i) (length w) e), small next)
-    go false e =
-        omega (arith, total-past (run w s) (suc i) (omega (arith, leb-false (suc i) (length w) e, length-run w s)))
+run-small w s small =
+    small-within (run w s)
+    (λ u low h. omega (arith, total-run w s u low (omega (arith, length-run w s)), small (min (suc u) (length w))))
