@@ -116,6 +116,7 @@ sum-below M w t u h =
 -- a queue that stands in the first D of six places
 
 module _ {M D : ℕ} {places : List ℕ} (n : Numbered M D places) (six : length places ≡ 6) where
+  -- it has D positions
   long : length (queueIn D places) ≡ D
   long = length-in D places (omega (arith, n .ranges .bound-high))
 

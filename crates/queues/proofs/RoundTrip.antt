@@ -13,6 +13,7 @@ use Rattle.slot.proofs.Places.{places-in}
 -- of a queue in the first D places
 
 module _ (M D : ℕ) (places : List ℕ) (six : length places ≡ 6) (n : Numbered M D places) where
+  -- it has D positions
   long : length (queueIn D places) ≡ D
   long = length-in D places (omega (arith, n .ranges .bound-high))
 
