@@ -100,7 +100,8 @@ given-by at s zero m g e = record { number-is = rw e; sheet-is = rw e (g ∙ m) 
 given-by at s (suc k) m g e = read-refused e (refl, g)
 
 pub read-judged : {bytes : List ℕ} (at : ℕ) (s : View) {number : ℕ} {memory sheet : Sheet} → readView N bytes 0 ≡ atEnd s bytes at →
-    length bytes ≤ at → number ≡ limitsRefusal valueLimit (N s) s → memory ≡ inMemory s → sheet ≡ sheetGiven number memory → IsRead bytes number sheet
+    length bytes ≤ at → number ≡ limitsRefusal valueLimit (N s) s → memory ≡ inMemory s → sheet ≡ sheetGiven number memory →
+    IsRead bytes number sheet
 unfolding atEnd judged
 read-judged {bytes} at s {number} e h n m g = given-by at s number m g (rw (le-leb (length bytes) at h, ← n) at e)
 
