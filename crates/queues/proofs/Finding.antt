@@ -1,7 +1,7 @@
 -- The queue of a number, total by total. What is fixed so far, followed by the queue that stands at the place in the list of all that may
 -- follow, is the queue wanted; no sum is needed.
 use Prim.Native.Nat.{ℕ, zero, suc, _+_, _*_, _-_, _≤_, _<_}
-use mathlib.Core.Path.{_≡_, refl, sym, ap, _∙_}
+use mathlib.Core.Path.{_≡_, refl, sym, _∙_}
 use mathlib.Core.List.{List, [], _∷_, _++_, map, append-assoc, append-nil}
 use native.Mathlib.Nat.{le-refl, mul-le-mul, mul-le-mul-right, not-suc-le-zero, le-of-suc-le-suc, suc-mul}
 use native.Mathlib.Numerals.{add-one}
@@ -25,18 +25,15 @@ map-at x (v ∷ l) (suc k) h = map-at x l k (le-of-suc-le-suc h)
 -- a place among the queues that begin with the first total, or past them
 first-at : (f : ℕ → ℕ → List Queue) (x c k : ℕ) → k < length (f x c) → getD (eachTotal f x (suc c)) k [] ≡ x ∷ getD (f x c) k []
 unfolding eachTotal
-first-at f x c k h =
-    List·getD-append (map (λ v. x ∷ v) (f x c)) (eachTotal f (suc x) c) [] k (omega (arith, length-map (f x c) (λ v. x ∷ v))) ∙
-    map-at x (f x c) k h
+first-at f x c k h = List·getD-append (map (λ v. x ∷ v) (f x c)) (eachTotal f (suc x) c) [] k (rw length-map h) ∙ map-at x (f x c) k h
 
 past-at : (f : ℕ → ℕ → List Queue) (x c k : ℕ) → length (f x c) ≤ k →
     getD (eachTotal f x (suc c)) k [] ≡ getD (eachTotal f (suc x) c) (k - length (f x c)) []
 unfolding eachTotal
 past-at f x c k h =
     let first = map (λ v. x ∷ v) (f x c) in
-    let far : k ≡ length first + (k - length (f x c)) = omega (arith, length-map (f x c) (λ v. x ∷ v)) in
-    ap (λ (n : ℕ). getD (first ++ eachTotal f (suc x) c) n []) far ∙
-    getD-append-add first (eachTotal f (suc x) c) (k - length (f x c)) []
+    let far : length first + (k - length (f x c)) ≡ k = rw length-map (omega arith) in
+    rw far at (getD-append-add first (eachTotal f (suc x) c) (k - length (f x c)) [])
 
 -- the search for the next total: it began at total₀, slack₀ and place₀, and the queue wanted is still at the place, from the total on
 pub record Searching (M r total₀ slack₀ place₀ total slack place : ℕ) : Type 0 where
@@ -72,14 +69,10 @@ search-goes-on {M} {r} {t = t} {g = suc c} {p = p} n s e h =
     let less : suc c - 1 ≡ c = omega arith in (
       omega arith,
       record {
-        same-queue =
-            s .same-queue ∙ past-at f t (suc c) p (omega arith) ∙
-            (ap (λ (k : ℕ). getD (eachTotal f (suc t) (suc c)) (p - k) []) (many ∙ sym e) ∙
-            (ap (λ (x : ℕ). getD (eachTotal f x (suc c)) (p - n) []) (sym (add-one t)) ∙
-            ap (λ (x : ℕ). getD (eachTotal f (t + 1) (suc x)) (p - n) []) (sym less)));
+        same-queue = s .same-queue ∙ past-at f t (suc c) p (omega arith) ∙ rw (many, ← e, add-one, less);
         same-sum = omega (arith, s .same-sum);
         total-low = omega (arith, s .total-low);
-        place-low = omega (arith, s .place-low, ap (λ (x : ℕ). sum (continuationCount M r) x + continuationCount M r x) less);
+        place-low = rw less (omega (arith, s .place-low));
       },
     )
 
@@ -109,9 +102,9 @@ fixing-begins M D number h =
     let all : D - 0 ≡ D = omega arith in
     record {
       upto = omega arith;
-      same-queue = ap (λ (r : ℕ). following M r 0 0 number) (sym all);
+      same-queue = rw all;
       same-sum = omega arith;
-      place-low = omega (arith, queue-count M D, ap (λ (r : ℕ). continuationCount M r 0) all);
+      place-low = rw (all, ← queue-count) h;
       six = refl;
       unused = λ i l. getD-zeros [] 6 i;
     }
@@ -127,7 +120,7 @@ fixing-leads {M} {D} {g = g} {u = u} n f h =
       ranges = record { speed-low = n .speed-low; speed-high = n .speed-high; bound-high = omega (arith, n .bound-high) };
       slack-high = omega (arith, f .same-sum, mul-le-mul-right M room);
       total-high = omega (arith, f .same-sum, mul-le-mul few (n .speed-high));
-      place-low = omega (arith, f .place-low, ap (λ (r : ℕ). continuationCount M r g) left);
+      place-low = rw (← left) (f .place-low);
     }
 
 -- one total more is fixed
@@ -135,18 +128,13 @@ pub fixing-goes-on : {M D number : ℕ} {places : List ℕ} {t g p u t₁ g₁ p
     Follows M (D - 1 - u) t g p t₁ g₁ p₁ → Fixing M D number (set places u t₁) t₁ g₁ p₁ (u + 1)
 fixing-goes-on {M} {D} {places = places} {t} {g} {p} {u} {t₁} {g₁} {p₁} n f h s =
     let left : D - u ≡ suc (D - 1 - u) = omega arith in
-    let next : D - 1 - u ≡ D - (u + 1) = omega arith in
+    let next : D - suc u ≡ D - 1 - u = omega arith in
     let within : u < length places = omega (arith, f .six, n .bound-high) in
     record {
       upto = omega arith;
-      same-queue =
-          f .same-queue ∙ ap (λ (q : Queue). take u places ++ q) (ap (λ (r : ℕ). following M r t g p) left ∙ s .same-queue) ∙
-          (sym (append-assoc (take u places) (t₁ ∷ []) (following M (D - 1 - u) t₁ g₁ p₁)) ∙
-          (ap (λ (l : List ℕ). l ++ following M (D - 1 - u) t₁ g₁ p₁) (sym (take-suc-set places u t₁ within)) ∙
-          (ap (λ (k : ℕ). take k (set places u t₁) ++ following M (D - 1 - u) t₁ g₁ p₁) (sym (add-one u)) ∙
-          ap (λ (r : ℕ). take (u + 1) (set places u t₁) ++ following M r t₁ g₁ p₁) next)));
-      same-sum = omega (arith, f .same-sum, s .same-sum, ap (λ (k : ℕ). k * M) (add-one u), suc-mul u M);
-      place-low = omega (arith, s .place-low, ap (λ (r : ℕ). continuationCount M r g₁) next);
+      same-queue = rw (f .same-queue, left, s .same-queue, add-one, next, take-suc-set places u t₁ within, append-assoc);
+      same-sum = rw (add-one, suc-mul) (omega (arith, f .same-sum, s .same-sum));
+      place-low = rw (add-one, next) (s .place-low);
       six = length-set places u t₁ ∙ f .six;
       unused = λ i l. getD-set-other places u i t₁ 0 (λ e. omega arith) ∙ f .unused i (omega arith);
     }
@@ -157,10 +145,6 @@ pub fixing-ends : {M D number : ℕ} {places : List ℕ} {t g p u : ℕ} → Fix
 unfolding continuations continuationCount
 fixing-ends {M} {D} {places = places} {t} {g} {p} {u} f h =
     let all : u ≡ D = omega (arith, f .upto) in
-    let none : D - u ≡ 0 = omega arith in
-    let first : p ≡ 0 = omega (arith, f .place-low, ap (λ (r : ℕ). continuationCount M r g) none) in
-    let rest : following M (D - u) t g p ≡ [] = ap (λ (r : ℕ). following M r t g p) none ∙ ap (following M 0 t g) first in
-    sym
-    (ap placesOf
-    (f .same-queue ∙ ap (λ (q : Queue). take u places ++ q) rest ∙ (append-nil (take u places) ∙ ap (λ (k : ℕ). take k places) all)) ∙
-    places-in D places (f .six) (λ i l k. f .unused i (omega arith)))
+    let none : D - D ≡ 0 = omega arith in
+    let first : p ≡ 0 = omega (arith, rw (all, none) at (f .place-low)) in
+    rw (f .same-queue, all, none, first, append-nil) (sym (places-in D places (f .six) (λ i l k. f .unused i (omega arith))))

@@ -1,11 +1,11 @@
 -- The number of a bearable queue is a sum of counts, position by position: at each, the counts of the queues that agree so far and have
 -- less there.
 use Prim.Native.Nat.{ℕ, zero, suc, _+_, _*_, _-_, _^_, _≤_, _<_}
-use mathlib.Core.Path.{_≡_, refl, sym, ap, _∙_, subst}
+use mathlib.Core.Path.{_≡_, refl, sym, ap, _∙_}
 use mathlib.Core.Bool.{Bool, true, false, cond}
-use mathlib.Core.List.{List, [], _∷_, _++_, map, List·Memᴰ}
+use mathlib.Core.List.{List, [], _∷_, _++_, map}
 use mathlib.Core.Logic.{⊎-elim}
-use native.Mathlib.Nat.{zero-add, add-zero, add-suc, suc-mul, eq-or-lt-of-le, not-suc-le-zero, mul-le-mul, mul-le-mul-right}
+use native.Mathlib.Nat.{zero-add, add-zero, add-suc, suc-mul, eq-or-lt-of-le, not-suc-le-zero, mul-le-mul}
 use native.Mathlib.Numerals.{add-one}
 use native.Mathlib.Omega.{arith}
 use lib.Dec.{T}
@@ -13,12 +13,12 @@ use lib.ListN.{length, getD, drop, length-drop}
 use lib.Seq.{drop-cons, drop-length, getD-drop}
 use borrow.Author.Tests.{eq-eqb, ne-eqb}
 use Rattle.process.specs.Sums.{sum, same}
-use Rattle.process.proofs.Sums.{sum-same, sum-more}
+use Rattle.process.proofs.Sums.{sum-more}
 use Rattle.model.specs.Queue.{Queue, total, queueIn, bearable, eachTotal, continuations, bearableQueues, queueCount, placeIn, numberOf, continuationCount}
 use Rattle.model.proofs.Queues.{GoesOn, bearable-at, bearable-upto, continuations-count, continuations-in, place-found, number-below, queue-count, length-in}
 use Rattle.counts.specs.Counts.{InTable}
 use Rattle.queues.specs.Order.{Ranges, Numbered, earlierAt}
-use Rattle.queues.proofs.Bounds.{queues-few}
+use Rattle.queues.proofs.Bounds.{queues-few, in-table}
 use Rattle.slot.proofs.Places.{total-in}
 
 -- queues that begin with another total are all passed
@@ -29,7 +29,8 @@ place-passed y x q [] rest h = sym (zero-add (placeIn rest (x ∷ q)))
 place-passed y x q (v ∷ l) rest h = rw (ne-eqb y x h) (omega (arith, place-passed y x q l rest h))
 
 -- among queues that begin with its own total a queue stands where the rest of it stands
-place-among : (x : ℕ) (q : Queue) (l rest : List Queue) → placeIn l q < length l → placeIn (map (λ v. x ∷ v) l ++ rest) (x ∷ q) ≡ placeIn l q
+place-among : (x : ℕ) (q : Queue) (l rest : List Queue) → placeIn l q < length l →
+    placeIn (map (λ v. x ∷ v) l ++ rest) (x ∷ q) ≡ placeIn l q
 unfolding placeIn same
 place-among x q [] rest h = absurd (not-suc-le-zero h)
 place-among x q (v ∷ l) rest h = rw (eq-eqb x x refl) (go (place-among x q l rest) (same v q) h)
@@ -47,25 +48,15 @@ place-each : (f : ℕ → ℕ → List Queue) (n : ℕ → ℕ) → ((t g : ℕ)
 unfolding eachTotal sum
 place-each f n e x k q h y zero low s = absurd (omega arith)
 place-each f n e x k q h y (suc c) low s =
-    ⊎-elim here (further (λ l. place-each f n e x k q h (suc y) c l (omega arith))) (eq-or-lt-of-le low)
-  where
-    here : y ≡ x → placeIn (eachTotal f y (suc c)) (x ∷ q) ≡ sum (λ j. n (suc k + j)) (x - y) + placeIn (f x k) q
-    here d =
-        let last : c ≡ k = omega arith in
-        let none : x - y ≡ 0 = omega arith in
-        let rest = eachTotal f (suc y) c in
-        ap (λ (z : ℕ). placeIn (map (λ v. z ∷ v) (f z c) ++ rest) (x ∷ q)) d ∙
-        ap (λ (z : ℕ). placeIn (map (λ v. x ∷ v) (f x z) ++ rest) (x ∷ q)) last ∙
-        place-among x q (f x k) rest h ∙ sym (zero-add (placeIn (f x k) q)) ∙
-        ap (λ (z : ℕ). sum (λ j. n (suc k + j)) z + placeIn (f x k) q) (sym none)
-
-    further : (y < x → placeIn (eachTotal f (suc y) c) (x ∷ q) ≡ sum (λ j. n (suc k + j)) (x - suc y) + placeIn (f x k) q) →
-        y < x → placeIn (eachTotal f y (suc c)) (x ∷ q) ≡ sum (λ j. n (suc k + j)) (x - y) + placeIn (f x k) q
-    further ih l =
-        let one : x - y ≡ suc (x - suc y) = omega arith in
-        let slack : suc k + (x - suc y) ≡ c = omega arith in
-        place-passed y x q (f y c) (eachTotal f (suc y) c) (λ d. omega arith) ∙
-        omega (arith, e y c, ih l, ap (sum (λ j. n (suc k + j))) one, ap n slack)
+    ⊎-elim
+    (λ (d : y ≡ x). let last : c ≡ k = omega arith in
+    let none : x - x ≡ 0 = omega arith in
+    rw (d, last, none, zero-add) (place-among x q (f x k) (eachTotal f (suc x) k) h))
+    (λ (l : y < x). let rest = place-each f n e x k q h (suc y) c l (omega arith) in
+    let slack : suc k + (x - suc y) ≡ c = omega arith in
+    let one : x - y ≡ suc (x - suc y) = omega arith in
+    rw (place-passed y x q (f y c) (eachTotal f (suc y) c) (λ d. omega arith), one, slack, e y c) (omega arith))
+    (eq-or-lt-of-le low)
 
 -- the totals from w(u) on
 total-drop : (w : Queue) (u i : ℕ) → getD (total w u ∷ drop u w) i 0 ≡ total w (u + i)
@@ -82,13 +73,10 @@ rest-found : (M : ℕ) (w : Queue) → T (bearable M w) → (u r : ℕ) → u + 
 rest-found M w t u r e =
     let left : length (drop u w) ≡ r = simp length-drop (omega arith) in
     let slack : total w u + (u * M - total w u) ≡ u * M = omega (arith, bearable-upto M w t u (omega arith)) in
-    let l = continuations M r (total w u) (u * M - total w u) in
     let goes : GoesOn M u (total w u) (drop u w) = λ i h.
-    let k = bearable-at M w t (u + i) (omega arith) in
-    (omega (arith, k .0, total-drop w u i, getD-drop u w i 0), omega (arith, k .1, getD-drop u w i 0)) in
-    place-found (drop u w) l
-    (subst (λ (n : ℕ). List·Memᴰ (drop u w) (continuations M n (total w u) (u * M - total w u))) left
-    (continuations-in M u (total w u) (u * M - total w u) (drop u w) slack goes)) .0
+    rw (total-drop w u i, getD-drop u w i 0) (bearable-at M w t (u + i) (omega arith)) in
+    place-found (drop u w) (continuations M r (total w u) (u * M - total w u))
+    (rw (← left) (continuations-in M u (total w u) (u * M - total w u) (drop u w) slack goes)) .0
 
 -- one position: the counts of those with less there, and the place of what is left after it
 rest-step : (M : ℕ) (w : Queue) → T (bearable M w) → (u r : ℕ) → u + suc r ≡ length w →
@@ -102,15 +90,15 @@ rest-step M w t u r e =
     let low = bearable-at M w t u (omega arith) .0 in
     let left : length w - suc u ≡ r = omega arith in
     let sums : y + suc (u * M - y + M) ≡ suc (x + k) = omega (arith, bearable-upto M w t u (omega arith), suc-mul u M) in
-    ap (placeIn (eachTotal (continuations M r) y (suc (u * M - y + M)))) (drop-cons w u 0 (omega arith)) ∙
-    place-each (continuations M r) (continuationCount M r) (continuations-count M r) x k (drop (suc u) w)
-    (rest-found M w t (suc u) r (omega arith)) y (suc (u * M - y + M)) low sums ∙
-    ap (λ (n : ℕ). sum (λ j. continuationCount M n (suc k + j)) (x - y) + restAt M w (suc u) r) (sym left)
+    rw (drop-cons w u 0 (omega arith), left)
+    (place-each (continuations M r) (continuationCount M r) (continuations-count M r) x k (drop (suc u) w)
+    (rest-found M w t (suc u) r (omega arith)) y (suc (u * M - y + M)) low sums)
 
+-- up to a position: the counts at each one before it, and the place of what is left after them
 rest-sum : (M : ℕ) (w : Queue) → T (bearable M w) → (u r : ℕ) → u + r ≡ length w →
     restAt M w 0 (length w) ≡ sum (earlierAt M w) u + restAt M w u r
 unfolding sum
-rest-sum M w t zero r e = let all : r ≡ length w = omega arith in ap (restAt M w 0) (sym all) ∙ sym (zero-add (restAt M w 0 r))
+rest-sum M w t zero r e = simp (← e, zero-add)
 rest-sum M w t (suc u) r e = omega (arith, rest-sum M w t u (suc r) (omega arith), rest-step M w t u r (omega arith))
 
 -- the number of a bearable queue is the sum of what comes before it at each position
@@ -118,101 +106,72 @@ pub number-sum : (M : ℕ) (w : Queue) → T (bearable M w) → numberOf M w ≡
 unfolding numberOf bearableQueues continuations placeIn same
 number-sum M w t =
     let none : 0 * M - 0 ≡ 0 = omega arith in
-    let all = sum (earlierAt M w) (length w) in
-    ap (λ (g : ℕ). placeIn (continuations M (length w) 0 g) w) (sym none) ∙ rest-sum M w t (length w) 0 (add-zero (length w)) ∙
-    ap (λ (q : Queue). all + placeIn ([] ∷ []) q) (drop-length w) ∙ add-zero all
+    (rw none at (rest-sum M w t (length w) 0 (add-zero (length w)))) ∙ rw (drop-length, add-zero)
 
 -- what comes before it at the first positions alone is no more than its number, and so below N
 pub sum-below : (M : ℕ) (w : Queue) → T (bearable M w) → (u : ℕ) → u ≤ length w → sum (earlierAt M w) u < queueCount M (length w)
 sum-below M w t u h =
     omega (arith, number-below M w refl t, number-sum M w t, sum-more (earlierAt M w) u (length w) h)
 
--- one position of a queue that stands in the first D of six places
+-- a queue that stands in the first D of six places
 
-module _ (M D : ℕ) (places : List ℕ) (six : length places ≡ 6) (n : Numbered M D places) (u : ℕ) (h : u < D) where
-  -- no product or difference there wraps
-  pub position-safe : (total places u ≤ getD places u 0) × (getD places u 0 ≤ (u + 1) * M) × ((u + 1) * M ≤ 48)
-  position-safe =
-      let w = queueIn D places in
-      let long = length-in D places (omega (arith, n .ranges .bound-high)) in
-      let at = bearable-at M w (n .is-bearable) u (omega arith) in
-      let few : u + 1 ≤ 6 = omega (arith, n .ranges .bound-high) in
-      let here = total-in D places (suc u) h in
-      (omega (arith, at .0, total-in D places u (omega arith), here), rw add-one (omega (arith, at .1, here)), mul-le-mul few (n .ranges .speed-high))
+module _ {M D : ℕ} {places : List ℕ} (n : Numbered M D places) (six : length places ≡ 6) where
+  -- it has D positions
+  long : length (queueIn D places) ≡ D
+  long = length-in D places (omega (arith, n .ranges .bound-high))
 
-  -- the slacks of the queues with less there are in the table
-  pub position-needed : (j : ℕ) → j < getD places u 0 - total places u → InTable M (D - 1 - u) ((u + 1) * M - getD places u 0 + 1 + j)
-  position-needed j l =
-      let safe = position-safe in
-      let more : u + 1 ≤ 6 - (D - 1 - u) = omega (arith, n .ranges .bound-high) in
-      record {
-        speed-low = n .ranges .speed-low;
-        speed-high = n .ranges .speed-high;
-        left-high = omega (arith, n .ranges .bound-high);
-        slack-high = omega (arith, safe .0, safe .1, mul-le-mul-right M more);
-      }
+  -- the sum over all positions is the number
+  pub number-whole : sum (earlierAt M (queueIn D places)) D ≡ numberOf M (queueIn D places)
+  number-whole = rw (number-sum M (queueIn D places) (n .is-bearable), long)
 
-  -- and the sum of their counts is what comes before
-  pub position-earlier : (b k : ℕ) → b ≡ total places u →
-      k ≡ sum (λ j. continuationCount M (D - 1 - u) ((u + 1) * M - getD places u 0 + 1 + j)) (getD places u 0 - b) →
-      k ≡ earlierAt M (queueIn D places) u
-  unfolding earlierAt
-  position-earlier b k e d =
-      let w = queueIn D places in
-      let here = total-in D places (suc u) h in
-      let before = total-in D places u (omega arith) in
-      let left : D - 1 - u ≡ length w - suc u = omega (arith, length-in D places (omega (arith, n .ranges .bound-high))) in
-      let slack : (u + 1) * M - getD places u 0 + 1 ≡ suc (suc u * M - total w (suc u)) = omega (arith, here, ap (λ k. k * M) (add-one u)) in
-      let many : getD places u 0 - b ≡ total w (suc u) - total w u = omega (arith, here, before) in
-      d ∙ ap (λ (r : ℕ). sum (λ j. continuationCount M r ((u + 1) * M - getD places u 0 + 1 + j)) (getD places u 0 - b)) left ∙
-      ap (λ (g : ℕ). sum (λ j. continuationCount M (length w - suc u) (g + j)) (getD places u 0 - b)) slack ∙
-      ap (sum (λ j. continuationCount M (length w - suc u) (suc (suc u * M - total w (suc u)) + j))) many
+  -- one position of it
+  module _ (u : ℕ) (h : u < D) where
+    -- no product or difference there wraps
+    pub position-safe : (total places u ≤ getD places u 0) × (getD places u 0 ≤ (u + 1) * M) × ((u + 1) * M ≤ 48)
+    position-safe =
+        let at = bearable-at M (queueIn D places) (n .is-bearable) u (omega (arith, long)) in
+        let few : u + 1 ≤ 6 = omega (arith, n .ranges .bound-high) in
+        let here = total-in D places (suc u) h in
+        (omega (arith, at .0, total-in D places u (omega arith)), rw add-one (omega (arith, at .1)), mul-le-mul few (n .ranges .speed-high))
 
-  -- nor does the sum up to there wrap
-  pub position-fits : sum (earlierAt M (queueIn D places)) u + earlierAt M (queueIn D places) u ≤ 49 ^ 6
-  unfolding sum
-  position-fits =
-      let w = queueIn D places in
-      let long = length-in D places (omega (arith, n .ranges .bound-high)) in
-      omega (
-        arith,
-        sum-below M w (n .is-bearable) (suc u) (omega arith),
-        queues-few M (length w) (n .ranges .speed-high) (omega (arith, n .ranges .bound-high)),
-      )
+    -- the slacks of the queues with less there are in the table
+    pub position-needed : (j : ℕ) → j < getD places u 0 - total places u → InTable M (D - 1 - u) ((u + 1) * M - getD places u 0 + 1 + j)
+    position-needed j l =
+        let safe = position-safe in
+        in-table u (D - 1 - u) (n .ranges) (omega arith) (rw (← add-one u) (omega arith))
 
--- the sum over all positions is the number
-pub number-whole : (M D : ℕ) (places : List ℕ) → length places ≡ 6 → Numbered M D places →
-    sum (earlierAt M (queueIn D places)) D ≡ numberOf M (queueIn D places)
-number-whole M D places six n =
-    let w = queueIn D places in
-    let long = length-in D places (omega (arith, n .ranges .bound-high)) in
-    ap (sum (earlierAt M w)) (sym long) ∙ sym (number-sum M w (n .is-bearable))
+    -- and the sum of their counts is what comes before
+    pub position-earlier : (b k : ℕ) → b ≡ total places u →
+        k ≡ sum (λ j. continuationCount M (D - 1 - u) ((u + 1) * M - getD places u 0 + 1 + j)) (getD places u 0 - b) →
+        k ≡ earlierAt M (queueIn D places) u
+    unfolding earlierAt
+    position-earlier b k e d =
+        let left : D - suc u ≡ D - 1 - u = omega arith in
+        d ∙ simp (long, total-in D places (suc u) h, total-in D places u (omega arith), left, e, add-one)
+
+    -- nor does the sum up to there wrap
+    pub position-fits : sum (earlierAt M (queueIn D places)) u + earlierAt M (queueIn D places) u ≤ 49 ^ 6
+    unfolding sum
+    position-fits =
+        omega (
+          arith,
+          rw long at (sum-below M (queueIn D places) (n .is-bearable) (suc u) (omega (arith, long))),
+          queues-few M D (n .ranges .speed-high) (n .ranges .bound-high),
+        )
 
 -- N
 
 -- with no position there is one queue
 pub queues-none : (M D : ℕ) → D ≡ 0 → 1 ≡ queueCount M D
 unfolding continuationCount
-queues-none M D e = sym (ap (queueCount M) e ∙ queue-count M 0)
+queues-none M D e = rw (e, queue-count)
 
 -- the slacks 0 to M at the first position are in the table
-pub queues-needed : (M D : ℕ) → Ranges M D → (D ≡ 0 → ⊥) → (j : ℕ) → j < M + 1 → InTable M (D - 1) (0 + j)
-queues-needed M D n h j l =
-    let one : 1 ≤ 6 - (D - 1) = omega (arith, n .bound-high) in
-    record {
-      speed-low = n .speed-low;
-      speed-high = n .speed-high;
-      left-high = omega (arith, n .bound-high);
-      slack-high = omega (arith, mul-le-mul-right M one);
-    }
+pub queues-needed : {M D : ℕ} → Ranges M D → (D ≡ 0 → ⊥) → (j : ℕ) → j < M + 1 → InTable M (D - 1) (0 + j)
+queues-needed {D = D} n h j l = in-table 0 (D - 1) n (omega arith) (omega arith)
 
 -- and N is the sum of their counts
 pub queues-counted : (M D : ℕ) → (D ≡ 0 → ⊥) → sum (λ j. continuationCount M (D - 1) (0 + j)) (M + 1) ≡ queueCount M D
 unfolding continuationCount
 queues-counted M zero h = absurd (h refl)
-queues-counted M (suc r) h =
-    let left : suc r - 1 ≡ r = omega arith in
-    let many : M + 1 ≡ suc (0 + M) = omega arith in
-    ap (sum (λ j. continuationCount M (suc r - 1) (0 + j))) many ∙
-    sum-same (suc (0 + M)) (λ j l. ap (λ (n : ℕ). continuationCount M n (0 + j)) left ∙ ap (continuationCount M r) (zero-add j)) ∙
-    sym (queue-count M (suc r))
+queues-counted M (suc r) h = let left : suc r - 1 ≡ r = omega arith in simp (left, zero-add, add-one, queue-count)

@@ -3,17 +3,17 @@
 -- own laws need are in its proofs/Queues.antt.
 use Prim.Native.Nat.{ℕ, zero, suc, _+_, _*_, _-_, min, _≤_, _<_}
 use mathlib.Core.Path.{_≡_, refl, sym, ap, _∙_}
-use mathlib.Core.Bool.{Bool, true, false, cond, not, _&&_}
+use mathlib.Core.Bool.{Bool, true, false, cond, _&&_}
 use mathlib.Core.List.{List, [], _∷_, _++_}
 use native.Mathlib.Numerals.{add-one}
 use native.Mathlib.Omega.{arith}
-use borrow.Author.Tests.{ltb-true, ltb-false, le-leb, lt-leb, eq-eqb, ne-eqb, not-true, not-false}
-use lib.Dec.{leb, ltb, eqb}
+use borrow.Author.Tests.{ltb-true, ltb-false, le-leb, lt-leb, ne-eqb}
+use lib.Dec.{leb, ltb}
 use lib.ListN.{length, getD, replicate, length-take}
 use lib.Seq.{getD-take, ext-getD, take-take, take-append-le}
 use Rattle.model.specs.Tests.{everywhere}
 use Rattle.model.specs.Queue.{Queue, total, queueIn, placesOf, bearableAt, bearable, unusedAt, unusedZero, bearableIn, run, arrive}
-use Rattle.model.proofs.Tests.{everywhere-fails, everywhere-more, everywhere-same}
+use Rattle.model.proofs.Tests.{holds-true, everywhere-all, everywhere-fails, everywhere-same}
 use Rattle.model.proofs.Queues.{length-in, length-places, total-places, total-past, length-run, length-arrive, total-run, total-arrive}
 use Rattle.slot.specs.Slot.{Small}
 
@@ -83,24 +83,13 @@ after-past D places s place h =
     (omega (arith, length-run (queueIn D places) s, length-in-upto D places))
 
 -- in them it is what stood in the next place, or in the last one, less the speed
-after-in : (D : ℕ) (places : List ℕ) (s place next : ℕ) → D ≤ length places → place < D → min (place + 2) D ≡ suc next →
+pub after-in : (D : ℕ) (places : List ℕ) (s place next : ℕ) → D ≤ length places → place < D → min (place + 2) D ≡ suc next →
     total (run (queueIn D places) s) (place + 1) ≡ getD places next 0 - s
 after-in D places s place next long h e =
     let w = queueIn D places in
     let l : length w ≡ D = length-in D places long in
     let u : min (suc (place + 1)) (length w) ≡ suc next = omega arith in
-    total-run w s (place + 1) (omega arith) (omega arith) ∙ ap (λ k. total w k - s) u ∙
-    ap (λ n. n - s) (total-in D places (suc next) (omega arith))
-
--- before the last of them it is what stood in the next place, less the speed
-pub after-within : (D : ℕ) (places : List ℕ) (s place : ℕ) → D ≤ length places → place + 1 < D →
-    total (run (queueIn D places) s) (place + 1) ≡ getD places (place + 1) 0 - s
-after-within D places s place long h = after-in D places s place (place + 1) long (omega arith) (omega arith)
-
--- in the last of them it is what stood there, less the speed
-pub after-last : (D : ℕ) (places : List ℕ) (s place : ℕ) → D ≤ length places → place < D → D ≤ place + 1 →
-    total (run (queueIn D places) s) (place + 1) ≡ getD places place 0 - s
-after-last D places s place long h last = after-in D places s place place long h (omega arith)
+    rw (total-run w s (place + 1) (omega arith) (omega arith), u, total-in D places (suc next) (omega arith))
 
 -- the total in a place with an arrival
 
@@ -111,23 +100,11 @@ with-past D places c d place h =
     (omega (arith, length-arrive (queueIn D places) c d, length-in-upto D places))
 
 -- in them it is what stood there, and the size where the deadline is no later
-with-in : (D : ℕ) (places : List ℕ) (c d place : ℕ) (b : Bool) → D ≤ length places → place < D → leb d (place + 1) ≡ b →
+pub with-in : (D : ℕ) (places : List ℕ) (c d place : ℕ) (b : Bool) → D ≤ length places → place < D → leb d (place + 1) ≡ b →
     total (arrive (queueIn D places) c d) (place + 1) ≡ getD places place 0 + cond b c 0
 with-in D places c d place b long h e =
-    let w = queueIn D places in
-    let l : length w ≡ D = length-in D places long in
-    total-arrive w c d (place + 1) (omega arith) (omega arith) ∙ ap (λ t. total w (place + 1) + cond t c 0) e ∙
-    ap (λ n. n + cond b c 0) (ap (total w) (add-one place) ∙ total-in D places (suc place) h)
-
--- before the deadline it is what stood there
-pub with-before : (D : ℕ) (places : List ℕ) (c d place : ℕ) → D ≤ length places → place < D → place + 1 < d →
-    total (arrive (queueIn D places) c d) (place + 1) ≡ getD places place 0
-with-before D places c d place long h before = omega (arith, with-in D places c d place false long h (lt-leb d (place + 1) before))
-
--- from the deadline on it is larger by the size
-pub with-from : (D : ℕ) (places : List ℕ) (c d place : ℕ) → D ≤ length places → place < D → d ≤ place + 1 →
-    total (arrive (queueIn D places) c d) (place + 1) ≡ getD places place 0 + c
-with-from D places c d place long h due = with-in D places c d place true long h (le-leb d (place + 1) due)
+    let l : length (queueIn D places) ≡ D = length-in D places long in
+    rw (total-arrive (queueIn D places) c d (place + 1) (omega arith) (omega arith), e, add-one, total-in D places (suc place) h)
 
 -- the tests for bearable, from place to place
 
@@ -148,40 +125,19 @@ bearable-in M D places long =
     ap (everywhere (bearableAt M w)) (length-in D places long) ∙ everywhere-same (bearableAt M w) (bearableAt M places) D
     (λ i h. rw (total-in D places i (omega arith), total-in D places (suc i) h))
 
--- where the test is asked at one of them and fails, it is not bearable
-pub bearable-fails : (M D : ℕ) (places : List ℕ) (u : ℕ) (asked : Bool) → D ≤ length places → u < D → asked ≡ bearableAt M places u →
-    not asked ≡ true → bearable M (queueIn D places) ≡ false
-bearable-fails M D places u asked long h e failed =
-    bearable-in M D places long ∙ everywhere-fails (bearableAt M places) D u h (sym e ∙ not-true asked failed)
+-- the tests for zero in the unused places
 
--- where the test held at each place passed, and is asked at the next one and holds, it held at each up to there
-pub bearable-more : (M : ℕ) (places : List ℕ) (u : ℕ) (asked : Bool) → everywhere (bearableAt M places) u ≡ true →
-    asked ≡ bearableAt M places u → not asked ≡ false → everywhere (bearableAt M places) (u + 1) ≡ true
-bearable-more M places u asked below e held = everywhere-more (bearableAt M places) u below (sym e ∙ not-false asked held)
-
--- counted from D on, the test at a place is whether this place is zero
-unused-at : (D : ℕ) (places : List ℕ) (place : ℕ) → D ≤ place → unusedAt D places (place - D) ≡ eqb (getD places place 0) 0
-unused-at D places place h = let same : D + (place - D) ≡ place = omega arith in ap (λ i. eqb (getD places i 0) 0) same
-
--- of no places all are zero
-pub unused-none : (D : ℕ) (places : List ℕ) → everywhere (unusedAt D places) (D - D) ≡ true
-unfolding everywhere
-unused-none D places = let none : D - D ≡ 0 = omega arith in ap (everywhere (unusedAt D places)) none
-
--- where the places from D up to this one are zero, and this one is, those up to the next one are
-pub unused-more : (D : ℕ) (places : List ℕ) (place : ℕ) → D ≤ place → everywhere (unusedAt D places) (place - D) ≡ true →
-    getD places place 0 ≡ 0 → everywhere (unusedAt D places) (place + 1 - D) ≡ true
-unused-more D places place h below here =
-    let next : place + 1 - D ≡ place - D + 1 = omega arith in
-    ap (everywhere (unusedAt D places)) next ∙
-    everywhere-more (unusedAt D places) (place - D) below (unused-at D places place h ∙ eq-eqb (getD places place 0) 0 here)
+-- where each place past D is zero, they all are
+pub unused-all : (D : ℕ) (places : List ℕ) → ((i : ℕ) → i < 6 → D ≤ i → getD places i 0 ≡ 0) → unusedZero D places ≡ true
+unused-all D places all =
+    holds-true _ (everywhere-all (unusedAt D places) (6 - D) (λ i h. rw (all (D + i) (omega arith) (omega arith)) tt))
 
 -- where a place past D is not zero, not all of them are
 pub unused-fails : (D : ℕ) (places : List ℕ) (place : ℕ) → D ≤ place → place < 6 → (getD places place 0 ≡ 0 → ⊥) →
     unusedZero D places ≡ false
 unused-fails D places place h l here =
-    everywhere-fails (unusedAt D places) (6 - D) (place - D) (omega arith)
-    (unused-at D places place h ∙ ne-eqb (getD places place 0) 0 here)
+    let same : D + (place - D) ≡ place = omega arith in
+    everywhere-fails (unusedAt D places) (6 - D) (place - D) (omega arith) (rw same (ne-eqb (getD places place 0) 0 here))
 
 -- the places hold a bearable queue where the queue in the first D is bearable, as was asked, and the unused places are zero
 pub bearable-unused : (M D : ℕ) (places : List ℕ) (b : Bool) → bearable M (queueIn D places) ≡ b →

@@ -1,14 +1,14 @@
 -- The tables of speeds and of jobs, entry by entry: the entries read so far, followed by those that are read from here on, are all that are
 -- read. One set of laws for both, over the entries' type, how many places a table has and what stands in those past the count.
 use Prim.Native.Nat.{ℕ, zero, suc, _+_, _-_, _≤_, _<_}
-use mathlib.Core.Path.{_≡_, refl, sym, ap, _∙_}
+use mathlib.Core.Path.{_≡_, refl, ap}
 use mathlib.Core.List.{List, [], _∷_, _++_, append-assoc, append-nil}
 use native.Mathlib.Nat.{le-refl, not-suc-le-zero, le-of-suc-le-suc, sub-zero, sub-eq-zero-of-le}
 use native.Mathlib.Numerals.{add-one}
 use native.Mathlib.Omega.{arith}
 use lib.ListN.{length, take, set, replicate, length-append}
-use Rattle.laws.proofs.Readers.{headed, bind-value, bind-refused}
-use Rattle.model.specs.Reading.{Answer, value, refused, Reader, onward, _>>=_, done, readSpeed, readSpeeds, readJob, readJobs}
+use Rattle.laws.proofs.Readers.{headed}
+use Rattle.model.specs.Reading.{Answer, value, refused, Reader, onward, readSpeed, readSpeeds, readJob, readJobs}
 use Rattle.model.specs.Tests.{padded}
 use Rattle.tables.specs.Answers.{tableAnswer, inMemoryAs}
 
@@ -40,7 +40,7 @@ in-front-none (refused k) = refl
 
 -- entries in front, and one after them
 in-front-one : {A : Type 0} (l : List A) (one : A) (x : Answer (List A)) → inFront l (inFront (one ∷ []) x) ≡ inFront (l ++ (one ∷ [])) x
-in-front-one l one (value rest next) = ap (λ l. value l next) (sym (append-assoc l (one ∷ []) rest))
+in-front-one l one (value rest next) = rw append-assoc
 in-front-one l one (refused k) = refl
 
 -- a reader reads one entry and then the others
@@ -51,10 +51,7 @@ module _ {A : Type 0} {left : Reader (List A)} {r : Reader A} {more : A → Read
     {bytes : List ℕ} {at : ℕ} where
   -- an entry that was read stands in front of the others
   head-read : {one : A} {next : ℕ} → r bytes at ≡ value one next → left bytes at ≡ inFront (one ∷ []) (more one bytes next)
-  head-read {one = one} {next = next} e =
-      ap (λ (w : Reader (List A)). w bytes at) (h .is) ∙
-      bind-value r (λ one. _>>=_ (more one) (λ rest. done (one ∷ rest))) bytes at e ∙
-      go (more one bytes next)
+  head-read {one = one} {next = next} e = rw (h .is, e) (go (more one bytes next))
     where
       go : (x : Answer (List A)) → onward x (λ rest n. value (one ∷ rest) n) ≡ inFront (one ∷ []) x
       go (value rest n) = refl
@@ -62,8 +59,7 @@ module _ {A : Type 0} {left : Reader (List A)} {r : Reader A} {more : A → Read
 
   -- an entry that was refused is the answer
   head-refused : {k : ℕ} → r bytes at ≡ refused k → left bytes at ≡ refused k
-  head-refused e =
-      ap (λ (w : Reader (List A)). w bytes at) (h .is) ∙ bind-refused r (λ one. _>>=_ (more one) (λ rest. done (one ∷ rest))) bytes at e
+  head-refused e = rw (h .is, e)
 
 -- a table of n places, z past the count
 
@@ -81,8 +77,8 @@ begins n z read count empty =
     record {
       entries = [];
       many = refl;
-      held = empty ∙ sym (zeros z n n (le-refl n));
-      goes = ap read (sym (sub-zero count)) ∙ sym (in-front-none (read (count - 0)));
+      held = rw (zeros z n n (le-refl n)) empty;
+      goes = rw (in-front-none, sub-zero);
     }
 
 module _ {A : Type 0} {n place next : ℕ} {z : A} {places : List A} {bytes : List ℕ} {whole : Answer (List A)} {left : Reader (List A)}
@@ -90,17 +86,17 @@ module _ {A : Type 0} {n place next : ℕ} {z : A} {places : List A} {bytes : Li
   -- one entry more is read, and stored in its place
   pub goes-on : {one : A} {after : ℕ} → place < n → r bytes next ≡ value one after →
       SoFar n z (place + 1) (set places place one) whole (more one bytes after)
-  goes-on {one = one} {after = after} k e =
+  goes-on {one = one} k e =
       record {
         entries = s .entries ++ (one ∷ []);
-        many = length-append (s .entries) (one ∷ []) ∙ ap (λ i. i + 1) (s .many);
+        many = rw (length-append, s .many);
         held = rw (s .held, ← s .many) (stored z one (s .entries) n n (rw (s .many) k) (le-refl n));
-        goes = s .goes ∙ ap (inFront (s .entries)) (head-read h e) ∙ in-front-one (s .entries) one (more one bytes after);
+        goes = rw (s .goes, head-read h e, in-front-one);
       }
 
   -- the next entry is refused: so is the whole
   pub stops : {k : ℕ} → r bytes next ≡ refused k → whole ≡ refused k
-  stops e = s .goes ∙ ap (inFront (s .entries)) (head-refused h e)
+  stops e = rw (s .goes, head-refused h e)
 
 -- no entry is left: the table in memory is the whole
 pub ends : {A : Type 0} {n place count next : ℕ} {z : A} {places : List A} {whole rest : Answer (List A)} →

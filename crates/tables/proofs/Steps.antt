@@ -4,8 +4,8 @@ use Prim.Native.Nat.{ℕ, _<_}
 use mathlib.Core.Path.{_≡_, refl, sym, ap, _∙_}
 use mathlib.Core.Bool.{Bool, true, false, not}
 use mathlib.Core.List.{List}
-use Rattle.laws.proofs.Readers.{Positive, tested, bind-value, bind-refused, after-value, after-refused, test-passes, test-fails}
-use Rattle.model.specs.Reading.{Answer, refused, Reader, _>>_, done, test, field, readSpeed, readSpeeds, readSpeedTable, readJob, readJobs, readJobTable}
+use Rattle.laws.proofs.Readers.{Positive, tested}
+use Rattle.model.specs.Reading.{Answer, refused, Reader, done, field, readSpeed, readSpeeds, readSpeedTable, readJob, readJobs, readJobTable}
 use Rattle.model.specs.Refusal.{speedCountRight, speedRight, energyRight, jobCountRight, weightRight, sizeRight, deadlineRight}
 use Rattle.model.specs.declared.Job.{Job}
 use Rattle.model.specs.declared.Speed.{Speed}
@@ -44,27 +44,17 @@ module _ {B : Type 0} {whole : Reader B} {right : ℕ → Bool} {number : ℕ} {
     {bytes : List ℕ} {at : ℕ} where
   -- a field that was refused is the answer
   pub field-refused : {k : ℕ} → field bytes at ≡ refused k → whole bytes at ≡ refused k
-  field-refused e =
-      ap (λ (r : Reader B). r bytes at) (s .is) ∙ bind-refused field (λ x. _>>_ (test (right x) number) (more x)) bytes at e
-
-  -- a field that was read goes on to its test
-  field-told : {f : Field} {x next : ℕ} → fieldAnswer f ≡ field bytes at → f ≡ field.Value x next →
-      whole bytes at ≡ _>>_ (test (right x) number) (more x) bytes next
-  field-told e d =
-      ap (λ (r : Reader B). r bytes at) (s .is) ∙
-      bind-value field (λ x. _>>_ (test (right x) number) (more x)) bytes at (told fieldAnswer e d)
+  field-refused e = rw (s .is, e)
 
   -- a field that was read and is out of its range is refused with its number
   pub field-fails : {f : Field} {x next : ℕ} {r : Bool} → fieldAnswer f ≡ field bytes at → f ≡ field.Value x next → r ≡ right x →
       not r ≡ true → whole bytes at ≡ refused number
-  field-fails {x = x} {next = next} e d a t =
-      field-told e d ∙ after-refused (test (right x) number) (more x) bytes next (test-fails (right x) number bytes next (failed-by a t))
+  field-fails e d a t = rw (s .is, told fieldAnswer e d, failed-by a t)
 
   -- a field that was read and is in its range leaves it to the rest
   pub field-passes : {f : Field} {x next : ℕ} {r : Bool} → fieldAnswer f ≡ field bytes at → f ≡ field.Value x next → r ≡ right x →
       not r ≡ false → whole bytes at ≡ more x bytes next
-  field-passes {x = x} {next = next} e d a t =
-      field-told e d ∙ after-value (test (right x) number) (more x) bytes next (test-passes (right x) number bytes next (passed-by a t))
+  field-passes e d a t = rw (s .is, told fieldAnswer e d, passed-by a t)
 
 -- the readers that begin with a field, field by field
 

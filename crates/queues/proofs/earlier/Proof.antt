@@ -11,7 +11,7 @@ use Rattle.queues.proofs.earlier.Tie as tie
 -- what is known of the position
 known : (c : tie.Start) → (total (c .args .t4) (c .args .u) ≤ getD (c .args .t4) (c .args .u) 0) ×
     (getD (c .args .t4) (c .args .u) 0 ≤ (c .args .u + 1) * c .args .largest) × ((c .args .u + 1) * c .args .largest ≤ 48)
-known c = position-safe (c .args .largest) (c .args .bound) (c .args .t4) (omega arith) (c .pre .2) (c .args .u) (c .pre .1)
+known c = position-safe (c .pre .2) (omega arith) (c .args .u) (c .pre .1)
 
 mul-here : tie.Need-mul-here
 mul-here c = search needs
@@ -48,17 +48,13 @@ sub-sum-of-counts-3 c = omega (arith, c .total .ensures, known (c .before) .0)
 
 sum-of-counts-requires : tie.Need-sum-of-counts-requires
 sum-of-counts-requires c κs =
-    let given = c .before in (
-      given .pre .0,
-      λ j h.
-          position-needed (given .args .largest) (given .args .bound) (given .args .t4) (omega arith) (given .pre .2) (given .args .u) (given .pre .1) j
-          (omega (arith, c .total .ensures)),
-    )
+    let (holds, low, numbered) = c .before .pre in
+    (holds, λ j h. position-needed numbered (omega arith) (c .before .args .u) low j (omega (arith, c .total .ensures)))
 
 returns : tie.Need-returns
 returns c =
     let given = c .before .before in
-    position-earlier (given .args .largest) (given .args .bound) (given .args .t4) (omega arith) (given .pre .2) (given .args .u) (given .pre .1)
+    position-earlier (given .pre .2) (omega arith) (given .args .u) (given .pre .1)
     (c .before .total .result) (c .sum-of-counts .result) (c .before .total .ensures) (c .sum-of-counts .ensures)
 
 pub earlier-spec : {M : Type 1} → statement M

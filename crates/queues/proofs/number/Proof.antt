@@ -26,18 +26,12 @@ earlier-requires c κs = (c .before .before .pre .0, c .loop-test .taken, c .bef
 add-before : tie.Need-add-before Inv-loop μ-loop
 add-before c =
     let given = c .before .before .before in
+    let u = c .before .before .loop .u in
     omega (
       arith,
       c .before .before .loop .inv .1,
       c .earlier .ensures,
-      position-fits
-          (given .args .largest)
-          (given .args .bound)
-          (given .args .queue)
-          (omega arith)
-          (given .pre .1)
-          (c .before .before .loop .u)
-          (c .before .loop-test .taken),
+      position-fits (given .pre .1) (omega arith) u (c .before .loop-test .taken),
     )
 
 add-u : tie.Need-add-u Inv-loop μ-loop
@@ -53,7 +47,7 @@ returns : tie.Need-returns Inv-loop μ-loop
 returns c =
     let given = c .before .before in
     sum-whole _ (c .before .loop .u) (given .args .bound) (c .before .loop .inv .1) (omega arith) (omega arith) ∙
-    number-whole (given .args .largest) (given .args .bound) (given .args .queue) (omega arith) (given .pre .1)
+    number-whole (given .pre .1) (omega arith)
 
 pub number-spec : {M : Type 1} → statement M
 number-spec =

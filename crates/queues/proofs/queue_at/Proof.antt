@@ -6,7 +6,8 @@ use Rattle.queues.proofs.queue_at.Statement.{statement}
 use Rattle.queues.proofs.queue_at.Tie as tie
 
 abbrev Inv-loop : tie.InvT-loop
-Inv-loop counts largest bound number queue₀ found₀ fixed₀ queue found fixed = Fixing largest bound number queue (found .total) (found .slack) (found .place) fixed
+Inv-loop counts largest bound number queue₀ found₀ fixed₀ queue found fixed =
+    Fixing largest bound number queue (found .total) (found .slack) (found .place) fixed
 
 abbrev μ-loop : tie.MeasureT-loop
 μ-loop counts largest bound number queue₀ found₀ fixed₀ queue found fixed = bound - fixed
@@ -21,7 +22,8 @@ sub-next-total-2 : tie.Need-sub-next-total-2 Inv-loop μ-loop
 sub-next-total-2 c = omega arith
 
 next-total-requires : tie.Need-next-total-requires Inv-loop μ-loop
-next-total-requires c κs = (c .before .before .pre .0, fixing-leads (c .before .before .pre .1) (c .before .loop .inv) (c .loop-test .taken))
+next-total-requires c κs =
+    (c .before .before .pre .0, fixing-leads (c .before .before .pre .1) (c .before .loop .inv) (c .loop-test .taken))
 
 mul-queue : tie.Need-mul-queue Inv-loop μ-loop
 mul-queue c = omega arith

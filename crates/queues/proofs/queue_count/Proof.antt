@@ -16,11 +16,10 @@ add-sum-of-counts : tie.Need-add-sum-of-counts
 add-sum-of-counts c = search needs
 
 sum-of-counts-requires : tie.Need-sum-of-counts-requires
-sum-of-counts-requires c κs =
-    (c .before .pre .0, λ j h. queues-needed (c .before .args .largest) (c .before .args .bound) (c .before .pre .1) (c .if1 .left) j (omega arith))
+sum-of-counts-requires c κs = (c .before .pre .0, λ j h. queues-needed (c .before .pre .1) (c .if1 .left) j (omega arith))
 
 returns-2 : tie.Need-returns-2
-returns-2 c = c .sum-of-counts .ensures ∙ queues-counted (c .before .before .args .largest) (c .before .before .args .bound) (c .before .if1 .left)
+returns-2 c = c .sum-of-counts .ensures ∙ queues-counted _ _ (c .before .if1 .left)
 
 pub queue-count-spec : {M : Type 1} → statement M
 queue-count-spec =

@@ -1,11 +1,11 @@
 -- `sum_of_counts` meets its contract: so far the sum is that of the first counts. Each is at most 49 ^ 5, so that 2 ^ 32 of them fit.
-use Prim.Native.Nat.{_+_, _-_, _≤_}
+use Prim.Native.Nat.{suc, _+_, _-_, _≤_}
 use mathlib.Core.Path.{_≡_, refl}
 use native.Mathlib.Omega.{arith}
 use Rattle.process.specs.Sums.{sum}
 use Rattle.process.proofs.Sums.{sum-next, sum-whole}
 use Rattle.model.specs.Queue.{continuationCount}
-use Rattle.counts.proofs.Bounds.{slack-small, count-small}
+use Rattle.counts.proofs.Bounds.{slack-small}
 use Rattle.queues.proofs.Bounds.{counts-small}
 use Rattle.queues.proofs.sum_of_counts.Statement.{statement}
 use Rattle.queues.proofs.sum_of_counts.Tie as tie
@@ -22,27 +22,22 @@ loop-holds c = (omega arith, refl)
 
 add-count : tie.Need-add-count Inv-loop μ-loop
 add-count c =
-    let given = c .before .before in
-    let needed = given .pre .1 (c .before .loop .j) (c .loop-test .taken) in
-    omega (
-      arith,
-      slack-small (given .args .largest) (given .args .left) (given .args .slack + c .before .loop .j) (needed .speed-high) (needed .slack-high),
-    )
+    let needed = c .before .before .pre .1 (c .before .loop .j) (c .loop-test .taken) in
+    omega (arith, slack-small _ _ _ (needed .speed-high) (needed .slack-high))
 
 count-requires : tie.Need-count-requires Inv-loop μ-loop
 count-requires c κs = (c .before .before .pre .0, c .before .before .pre .1 (c .before .loop .j) (c .loop-test .taken))
 
 add-all : tie.Need-add-all Inv-loop μ-loop
+unfolding sum
 add-all c =
     let given = c .before .before .before in
     let j = c .before .before .loop .j in
-    let needed = given .pre .1 j (c .before .loop-test .taken) in
     omega (
       arith,
       c .count .ensures,
       c .before .before .loop .inv .1,
-      count-small (given .args .largest) (given .args .left) (given .args .slack + j) needed,
-      counts-small (given .args .largest) (given .args .left) (given .args .slack) (given .args .n) (given .pre .1) j (c .before .before .loop .inv .0),
+      counts-small _ _ _ _ (given .pre .1) (suc j) (omega arith),
     )
 
 add-j : tie.Need-add-j Inv-loop μ-loop

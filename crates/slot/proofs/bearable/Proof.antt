@@ -3,9 +3,11 @@ use Prim.Native.Nat.{_≤_, _-_}
 use mathlib.Core.Path.{_≡_, refl, sym, ap, _∙_}
 use mathlib.Core.Bool.{true}
 use native.Mathlib.Omega.{arith}
+use borrow.Author.Tests.{not-true, not-false}
 use Rattle.model.specs.Tests.{everywhere}
 use Rattle.model.specs.Queue.{bearableAt}
-use Rattle.slot.proofs.Places.{bearable-in, bearable-fails, bearable-more}
+use Rattle.model.proofs.Tests.{everywhere-fails, everywhere-more}
+use Rattle.slot.proofs.Places.{bearable-in}
 use Rattle.slot.proofs.bearable.Statement.{statement}
 use Rattle.slot.proofs.bearable.Tie as tie
 
@@ -25,10 +27,11 @@ bearable-at-requires c κs = omega arith
 returns : tie.Need-returns Inv-loop μ-loop
 returns c =
     let a = c .before .before .before .before .args in
+    let u = c .before .before .before .loop .u in
     let asked = c .before .bearable-at in
     sym
-    (bearable-fails (a .largest) (a .bound) (a .queue) (c .before .before .before .loop .u) (asked .result) (omega arith)
-    (c .before .before .loop-test .taken) (asked .ensures) (c .if1 .taken))
+    (bearable-in (a .largest) (a .bound) (a .queue) (omega arith) ∙
+    everywhere-fails (bearableAt (a .largest) (a .queue)) (a .bound) u (omega arith) (cc (not-true (asked .result) (c .if1 .taken))))
 
 add-u : tie.Need-add-u Inv-loop μ-loop
 add-u c = omega arith
@@ -38,10 +41,9 @@ loop-less c = omega arith
 
 loop-again : tie.Need-loop-again Inv-loop μ-loop
 loop-again c =
-    let a = c .before .before .before .before .args in
     let l = c .before .before .before .loop in
     let asked = c .before .bearable-at in
-    (omega arith, bearable-more (a .largest) (a .queue) (l .u) (asked .result) (l .inv .1) (asked .ensures) (c .if1 .left))
+    (omega arith, everywhere-more _ (l .u) (l .inv .1) (sym (asked .ensures) ∙ not-false (asked .result) (c .if1 .left)))
 
 returns-2 : tie.Need-returns-2 Inv-loop μ-loop
 returns-2 c =

@@ -1,8 +1,9 @@
 -- `total_after` meets its contract: the total after a slot is found by where the place lies among the first ones.
+use Prim.Native.Nat.{_+_}
 use mathlib.Core.Path.{sym, _∙_}
 use native.Mathlib.Omega.{arith}
 use borrow.Author.Needs.{needs}
-use Rattle.slot.proofs.Places.{after-past, after-within, after-last}
+use Rattle.slot.proofs.Places.{after-past, after-in}
 use Rattle.slot.proofs.total_after.Statement.{statement}
 use Rattle.slot.proofs.total_after.Tie as tie
 
@@ -29,7 +30,7 @@ less-requires c κs = search needs
 returns-2 : tie.Need-returns-2
 returns-2 c =
     let a = c .before .before .before .args in
-    c .less .ensures ∙ sym (after-within (a .bound) (a .t2) (a .speed) (a .place) (omega arith) (c .before .if2 .taken))
+    c .less .ensures ∙ sym (after-in (a .bound) (a .t2) (a .speed) (a .place) (a .place + 1) (omega arith) (omega arith) (omega arith))
 
 mul-less-2 : tie.Need-mul-less-2
 mul-less-2 c = search needs
@@ -43,8 +44,7 @@ less-requires-2 c κs = search needs
 returns-3 : tie.Need-returns-3
 returns-3 c =
     let a = c .before .before .before .args in
-    c .less2 .ensures ∙
-    sym (after-last (a .bound) (a .t2) (a .speed) (a .place) (omega arith) (c .before .before .if1 .left) (c .before .if2 .left))
+    c .less2 .ensures ∙ sym (after-in (a .bound) (a .t2) (a .speed) (a .place) (a .place) (omega arith) (omega arith) (omega arith))
 
 pub total-after-spec : {M : Type 1} → statement M
 total-after-spec =

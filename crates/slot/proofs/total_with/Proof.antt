@@ -1,9 +1,12 @@
 -- `total_with` meets its contract: the total with an arrival is found by where the place lies among the first ones, and whether it is
 -- before the deadline.
+use Prim.Native.Nat.{_+_}
 use mathlib.Core.Path.{sym}
+use mathlib.Core.Bool.{true, false}
 use native.Mathlib.Omega.{arith}
 use borrow.Author.Needs.{needs}
-use Rattle.slot.proofs.Places.{small-in, with-past, with-before, with-from}
+use borrow.Author.Tests.{le-leb, lt-leb}
+use Rattle.slot.proofs.Places.{small-in, with-past, with-in}
 use Rattle.slot.proofs.total_with.Statement.{statement}
 use Rattle.slot.proofs.total_with.Tie as tie
 
@@ -27,7 +30,8 @@ array-read-result c = search needs
 returns-2 : tie.Need-returns-2
 returns-2 c =
     let a = c .before .before .args in
-    sym (with-before (a .bound) (a .t2) (a .size) (a .deadline) (a .place) (omega arith) (c .before .if1 .left) (c .if2 .taken))
+    let early = lt-leb (a .deadline) (a .place + 1) (c .if2 .taken) in
+    omega (arith, with-in (a .bound) (a .t2) (a .size) (a .deadline) (a .place) false (omega arith) (omega arith) early)
 
 mul-result-2 : tie.Need-mul-result-2
 mul-result-2 c = search needs
@@ -43,7 +47,8 @@ add-result c =
 returns-3 : tie.Need-returns-3
 returns-3 c =
     let a = c .before .before .args in
-    sym (with-from (a .bound) (a .t2) (a .size) (a .deadline) (a .place) (omega arith) (c .before .if1 .left) (c .if2 .left))
+    let due = le-leb (a .deadline) (a .place + 1) (c .if2 .left) in
+    sym (with-in (a .bound) (a .t2) (a .size) (a .deadline) (a .place) true (omega arith) (omega arith) due)
 
 pub total-with-spec : {M : Type 1} → statement M
 total-with-spec =

@@ -1,9 +1,32 @@
 -- `job_at` meets its contract: the weight is read and tested, then the size, then the deadline.
-use mathlib.Core.Path.{sym, _∙_}
+use mathlib.Core.Path.{_≡_, sym, _∙_}
 use borrow.Author.Needs.{needs}
-use Rattle.tables.proofs.Steps.{field-number, field-refused, field-fails, field-passes, at-weight, at-size, at-deadline}
+use denote.Ref.{now}
+use Rattle.model.specs.Reading.{readJob}
+use Rattle.tables.proofs.Steps.{afterWeight, afterSize, field-number, field-refused, field-fails, field-passes, at-weight, at-size, at-deadline}
 use Rattle.tables.proofs.job_at.Statement.{statement}
 use Rattle.tables.proofs.job_at.Tie as tie
+
+-- the weight was read and is in range: the size is next
+weight-passed : (c : tie.Else1) →
+    let a = c .before .before .before .before .before .before .before .args in
+    let weight = c .before .before .before .answer .given .0 in
+    readJob (a .bound) (now (a .bytes)) (a .at) ≡ afterWeight (a .bound) (weight .0) (now (a .bytes)) (weight .1 .0)
+weight-passed c =
+    field-passes (at-weight _) (c .before .before .before .before .before .field-at .ensures)
+    (c .before .before .before .answer .given .1) (c .before .weight-right .ensures) (c .if1 .left)
+
+-- and so was the size: the deadline is next
+size-passed : (c : tie.Else2) →
+    let first = c .before .before .before .before .before .before in
+    let a = first .before .before .before .before .before .before .before .args in
+    let weight = first .before .before .before .answer .given .0 in
+    let size = c .before .before .before .answer2 .given .0 in
+    readJob (a .bound) (now (a .bytes)) (a .at) ≡ afterSize (a .bound) (weight .0) (size .0) (now (a .bytes)) (size .1 .0)
+size-passed c =
+    weight-passed (c .before .before .before .before .before .before) ∙
+    field-passes (at-size _ _) (c .before .before .before .before .before .field-at2 .ensures)
+    (c .before .before .before .answer2 .given .1) (c .before .size-right .ensures) (c .if2 .left)
 
 field-at-requires : tie.Need-field-at-requires
 field-at-requires c κs = search needs
@@ -46,10 +69,8 @@ number-of-requires-2 c κs = search needs
 
 returns-3 : tie.Need-returns-3
 returns-3 c =
-    let weight = c .before .before .before .before in
     sym
-    (field-passes (at-weight _) (weight .before .before .before .before .before .field-at .ensures)
-    (weight .before .before .before .answer .given .1) (weight .before .weight-right .ensures) (weight .if1 .left) ∙
+    (weight-passed (c .before .before .before .before) ∙
     field-refused (at-size _ _)
     (field-number (c .before .before .before .field-at2 .ensures) (c .before .enum-told2 .given .1) (c .number-of2 .ensures)))
 
@@ -58,10 +79,8 @@ size-right-requires c κs = search needs
 
 returns-4 : tie.Need-returns-4
 returns-4 c =
-    let weight = c .before .before .before .before .before .before in
     sym
-    (field-passes (at-weight _) (weight .before .before .before .before .before .field-at .ensures)
-    (weight .before .before .before .answer .given .1) (weight .before .weight-right .ensures) (weight .if1 .left) ∙
+    (weight-passed (c .before .before .before .before .before .before) ∙
     field-fails (at-size _ _) (c .before .before .before .before .before .field-at2 .ensures)
     (c .before .before .before .answer2 .given .1) (c .before .size-right .ensures) (c .if2 .taken))
 
@@ -79,13 +98,8 @@ number-of-requires-3 c κs = search needs
 
 returns-5 : tie.Need-returns-5
 returns-5 c =
-    let size = c .before .before .before .before in
-    let weight = size .before .before .before .before .before .before in
     sym
-    (field-passes (at-weight _) (weight .before .before .before .before .before .field-at .ensures)
-    (weight .before .before .before .answer .given .1) (weight .before .weight-right .ensures) (weight .if1 .left) ∙
-    field-passes (at-size _ _) (size .before .before .before .before .before .field-at2 .ensures)
-    (size .before .before .before .answer2 .given .1) (size .before .size-right .ensures) (size .if2 .left) ∙
+    (size-passed (c .before .before .before .before) ∙
     field-refused (at-deadline _ _ _)
     (field-number (c .before .before .before .field-at3 .ensures) (c .before .enum-told3 .given .1) (c .number-of3 .ensures)))
 
@@ -94,25 +108,15 @@ deadline-right-requires c κs = search needs
 
 returns-6 : tie.Need-returns-6
 returns-6 c =
-    let size = c .before .before .before .before .before .before in
-    let weight = size .before .before .before .before .before .before in
     sym
-    (field-passes (at-weight _) (weight .before .before .before .before .before .field-at .ensures)
-    (weight .before .before .before .answer .given .1) (weight .before .weight-right .ensures) (weight .if1 .left) ∙
-    field-passes (at-size _ _) (size .before .before .before .before .before .field-at2 .ensures)
-    (size .before .before .before .answer2 .given .1) (size .before .size-right .ensures) (size .if2 .left) ∙
+    (size-passed (c .before .before .before .before .before .before) ∙
     field-fails (at-deadline _ _ _) (c .before .before .before .before .before .field-at3 .ensures)
     (c .before .before .before .answer3 .given .1) (c .before .deadline-right .ensures) (c .if3 .taken))
 
 returns-7 : tie.Need-returns-7
 returns-7 c =
-    let size = c .before .before .before .before .before .before in
-    let weight = size .before .before .before .before .before .before in
     sym
-    (field-passes (at-weight _) (weight .before .before .before .before .before .field-at .ensures)
-    (weight .before .before .before .answer .given .1) (weight .before .weight-right .ensures) (weight .if1 .left) ∙
-    field-passes (at-size _ _) (size .before .before .before .before .before .field-at2 .ensures)
-    (size .before .before .before .answer2 .given .1) (size .before .size-right .ensures) (size .if2 .left) ∙
+    (size-passed (c .before .before .before .before .before .before) ∙
     field-passes (at-deadline _ _ _) (c .before .before .before .before .before .field-at3 .ensures)
     (c .before .before .before .answer3 .given .1) (c .before .deadline-right .ensures) (c .if3 .left))
 

@@ -1,9 +1,20 @@
 -- `speed_at` meets its contract: the speed is read and tested, then its energy.
-use mathlib.Core.Path.{sym, _∙_}
+use mathlib.Core.Path.{_≡_, sym, _∙_}
 use borrow.Author.Needs.{needs}
-use Rattle.tables.proofs.Steps.{field-number, field-refused, field-fails, field-passes, at-speed, at-energy}
+use denote.Ref.{now}
+use Rattle.model.specs.Reading.{readSpeed}
+use Rattle.tables.proofs.Steps.{afterSpeed, field-number, field-refused, field-fails, field-passes, at-speed, at-energy}
 use Rattle.tables.proofs.speed_at.Statement.{statement}
 use Rattle.tables.proofs.speed_at.Tie as tie
+
+-- the speed was read and is in range: its energy is next
+speed-passed : (c : tie.Else1) →
+    let a = c .before .before .before .before .before .before .before .args in
+    let speed = c .before .before .before .answer .given .0 in
+    readSpeed (a .place) (a .before) (now (a .bytes)) (a .at) ≡ afterSpeed (speed .0) (now (a .bytes)) (speed .1 .0)
+speed-passed c =
+    field-passes (at-speed _ _) (c .before .before .before .before .before .field-at .ensures) (c .before .before .before .answer .given .1)
+    (c .before .speed-right .ensures) (c .if1 .left)
 
 field-at-requires : tie.Need-field-at-requires
 field-at-requires c κs = search needs
@@ -46,10 +57,8 @@ number-of-requires-2 c κs = search needs
 
 returns-3 : tie.Need-returns-3
 returns-3 c =
-    let speed = c .before .before .before .before in
     sym
-    (field-passes (at-speed _ _) (speed .before .before .before .before .before .field-at .ensures)
-    (speed .before .before .before .answer .given .1) (speed .before .speed-right .ensures) (speed .if1 .left) ∙
+    (speed-passed (c .before .before .before .before) ∙
     field-refused (at-energy _)
     (field-number (c .before .before .before .field-at2 .ensures) (c .before .enum-told2 .given .1) (c .number-of2 .ensures)))
 
@@ -58,19 +67,15 @@ energy-right-requires c κs = search needs
 
 returns-4 : tie.Need-returns-4
 returns-4 c =
-    let speed = c .before .before .before .before .before .before in
     sym
-    (field-passes (at-speed _ _) (speed .before .before .before .before .before .field-at .ensures)
-    (speed .before .before .before .answer .given .1) (speed .before .speed-right .ensures) (speed .if1 .left) ∙
+    (speed-passed (c .before .before .before .before .before .before) ∙
     field-fails (at-energy _) (c .before .before .before .before .before .field-at2 .ensures)
     (c .before .before .before .answer2 .given .1) (c .before .energy-right .ensures) (c .if2 .taken))
 
 returns-5 : tie.Need-returns-5
 returns-5 c =
-    let speed = c .before .before .before .before .before .before in
     sym
-    (field-passes (at-speed _ _) (speed .before .before .before .before .before .field-at .ensures)
-    (speed .before .before .before .answer .given .1) (speed .before .speed-right .ensures) (speed .if1 .left) ∙
+    (speed-passed (c .before .before .before .before .before .before) ∙
     field-passes (at-energy _) (c .before .before .before .before .before .field-at2 .ensures)
     (c .before .before .before .answer2 .given .1) (c .before .energy-right .ensures) (c .if2 .left))
 
