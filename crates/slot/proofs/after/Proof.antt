@@ -5,6 +5,24 @@ use Rattle.slot.proofs.Places.{places-by}
 use Rattle.slot.proofs.after.Statement.{statement}
 use Rattle.slot.proofs.after.Tie as tie
 
+total-after-requires : tie.Need-total-after-requires
+total-after-requires c κs = search needs
+
+total-after-requires-2 : tie.Need-total-after-requires-2
+total-after-requires-2 c κs = search needs
+
+total-after-requires-3 : tie.Need-total-after-requires-3
+total-after-requires-3 c κs = search needs
+
+total-after-requires-4 : tie.Need-total-after-requires-4
+total-after-requires-4 c κs = search needs
+
+total-after-requires-5 : tie.Need-total-after-requires-5
+total-after-requires-5 c κs = search needs
+
+total-after-requires-6 : tie.Need-total-after-requires-6
+total-after-requires-6 c κs = search needs
+
 returns : tie.Need-returns
 returns c =
     let a = c .before .before .before .before .before .before .args in
@@ -20,10 +38,10 @@ pub after-spec : {M : Type 1} → statement M
 after-spec =
     tie.close
     (tie.spec
-    (λ c κs. search needs)
-    (λ c κs. search needs)
-    (λ c κs. search needs)
-    (λ c κs. search needs)
-    (λ c κs. search needs)
-    (λ c κs. search needs)
+    total-after-requires
+    total-after-requires-2
+    total-after-requires-3
+    total-after-requires-4
+    total-after-requires-5
+    total-after-requires-6
     returns)

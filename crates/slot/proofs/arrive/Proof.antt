@@ -5,6 +5,24 @@ use Rattle.slot.proofs.Places.{places-by}
 use Rattle.slot.proofs.arrive.Statement.{statement}
 use Rattle.slot.proofs.arrive.Tie as tie
 
+total-with-requires : tie.Need-total-with-requires
+total-with-requires c κs = search needs
+
+total-with-requires-2 : tie.Need-total-with-requires-2
+total-with-requires-2 c κs = search needs
+
+total-with-requires-3 : tie.Need-total-with-requires-3
+total-with-requires-3 c κs = search needs
+
+total-with-requires-4 : tie.Need-total-with-requires-4
+total-with-requires-4 c κs = search needs
+
+total-with-requires-5 : tie.Need-total-with-requires-5
+total-with-requires-5 c κs = search needs
+
+total-with-requires-6 : tie.Need-total-with-requires-6
+total-with-requires-6 c κs = search needs
+
 returns : tie.Need-returns
 returns c =
     let a = c .before .before .before .before .before .before .args in
@@ -20,10 +38,10 @@ pub arrive-spec : {M : Type 1} → statement M
 arrive-spec =
     tie.close
     (tie.spec
-    (λ c κs. search needs)
-    (λ c κs. search needs)
-    (λ c κs. search needs)
-    (λ c κs. search needs)
-    (λ c κs. search needs)
-    (λ c κs. search needs)
+    total-with-requires
+    total-with-requires-2
+    total-with-requires-3
+    total-with-requires-4
+    total-with-requires-5
+    total-with-requires-6
     returns)
