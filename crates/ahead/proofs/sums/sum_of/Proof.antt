@@ -3,16 +3,13 @@
 use Prim.Native.Nat.{_+_, _-_, _≤_}
 use mathlib.Core.Path.{_≡_, sym, ap, _∙_, subst}
 use native.Mathlib.Omega.{arith}
-use lib.ListN.{getD}
-use Rattle.process.specs.Recursion.{plus, times}
 use Rattle.model.specs.View.{viewOf}
 use Rattle.value.specs.Narrow.{width, valueOf}
 use Rattle.value.specs.Values.{Fits}
 use Rattle.value.proofs.Decoding.{missing-none}
-use Rattle.rows.specs.Rows.{valueInRow, afterWith}
 use Rattle.ahead.specs.Pass.{sumLeft, stepped}
 use Rattle.ahead.proofs.Adding.{sum-begun, sum-more, sum-none}
-use Rattle.ahead.proofs.Passing.{in-range, columns-room, weight-read, number-low}
+use Rattle.ahead.proofs.Passing.{columns-room, number-low}
 use Rattle.ahead.proofs.sums.sum_of.Statement.{statement}
 use Rattle.ahead.proofs.sums.sum_of.Tie as tie
 
@@ -23,21 +20,6 @@ Inv-loop sheet sizes lanes next values block steps far sum₀ place₀ sum place
 
 abbrev μ-loop : tie.MeasureT-loop
 μ-loop sheet sizes lanes next values block steps far sum₀ place₀ sum place = sheet .«job_count» - place
-
--- one entry more
-turn : (c : tie.After-shared-slice-known3 Inv-loop μ-loop) →
-    let l = c .before .before .before .before .before .before in
-    let a = l .before .before .before .before .args in
-    plus (valueOf (l .loop .sum)) (times (getD (a .lanes .now) (l .loop .place) 0) (valueOf (c .before .before .before .value-on .result))) ≡
-    sumLeft width (viewOf (a .sheet)) (a .sizes) (a .next) (a .values .now) (stepped (a .sizes) (a .block) (a .steps)) (l .loop .place + 1)
-turn c =
-    let l = c .before .before .before .before .before .before in
-    let start = l .before .before .before .before in
-    let a = start .args in
-    sum-more (viewOf (a .sheet)) (valueInRow width (a .sizes .largest) (a .values .now) (a .next))
-    (afterWith (a .sizes .largest) (a .sizes .bound) (stepped (a .sizes) (a .block) (a .steps))) (l .loop .place) (l .loop .inv .1)
-    (weight-read (start .pre .0) (l .loop .place) (omega (arith, c .before .before .before .before .if1 .taken)))
-    (c .before .before .before .value-on .ensures)
 
 of-requires : tie.Need-of-requires Inv-loop μ-loop
 of-requires c κs = tt
@@ -75,18 +57,17 @@ mul-add c = omega (arith, c .before .before .before .if1 .taken)
 shared-slice-read-add : tie.Need-shared-slice-read-add Inv-loop μ-loop
 shared-slice-read-add c =
     let start = c .before .before .before .before .before .before .before .before .before .before in
-    omega (arith, c .before .before .before .before .if1 .taken, in-range (start .pre .0) .jobs-high, columns-room (start .pre .0))
+    omega (arith, c .before .before .before .before .if1 .taken, columns-room (start .pre .0))
 
 add-requires : tie.Need-add-requires Inv-loop μ-loop
 add-requires c κs =
     let l = c .before .before .before .before .before .before in
     let start = l .before .before .before .before in
-    let a = start .args in
-    let inside = start .pre .1 .within in
     let low = c .before .before .before .before .if1 .taken in
-    subst (Fits width) (sym (turn c))
-    (start .pre .0 .fits _ (l .loop .place + 1) (number-low (start .pre .0) (a .block) (inside .block-low) (a .steps) inside)
-    (omega (arith, low)))
+    let weight = start .pre .0 .table .columns .firsts (l .loop .place) (omega (arith, low)) in
+    subst (Fits width)
+    (sym (sum-more (viewOf (start .args .sheet)) _ _ (l .loop .place) (l .loop .inv .1) weight (c .before .before .before .value-on .ensures)))
+    (start .pre .0 .fits _ (l .loop .place + 1) (number-low (start .pre .0) (start .pre .1 .within)) (omega (arith, low)))
 
 add-place : tie.Need-add-place Inv-loop μ-loop
 add-place c = omega (arith, c .before .before .before .before .before .if1 .taken)
@@ -95,7 +76,15 @@ loop-less : tie.Need-loop-less Inv-loop μ-loop
 loop-less c = omega (arith, c .before .before .before .before .before .if1 .taken)
 
 loop-again : tie.Need-loop-again Inv-loop μ-loop
-loop-again c = (omega (arith, c .before .before .before .before .before .if1 .taken), c .add .ensures ∙ turn (c .before))
+loop-again c =
+    let l = c .before .before .before .before .before .before .before in
+    let start = l .before .before .before .before in
+    let low = c .before .before .before .before .before .if1 .taken in
+    let weight = start .pre .0 .table .columns .firsts (l .loop .place) (omega (arith, low)) in (
+      omega (arith, low),
+      c .add .ensures ∙
+          sum-more (viewOf (start .args .sheet)) _ _ (l .loop .place) (l .loop .inv .1) weight (c .before .before .before .before .value-on .ensures),
+    )
 
 returns-2 : tie.Need-returns-2 Inv-loop μ-loop
 returns-2 c =
