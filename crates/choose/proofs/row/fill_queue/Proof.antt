@@ -1,46 +1,31 @@
 -- `fill_queue` meets its contract: the least over the speeds in the queue, stored in both rows at the queue's number.
-use Prim.Native.Nat.{ℕ, _+_, _-_, _≤_, _<_}
-use mathlib.Core.Path.{_≡_, ap, _∙_}
+use Prim.Native.Nat.{_+_, _-_, _<_}
+use mathlib.Core.Path.{_≡_}
 use native.Mathlib.Omega.{arith}
 use borrow.Author.Needs.{needs}
-use lib.ListN.{length, getD}
+use lib.ListN.{getD}
 use Rattle.model.specs.View.{viewOf}
-use Rattle.queues.specs.Blocks.{lowestOf, numberIn}
+use Rattle.queues.specs.Blocks.{numberIn}
 use Rattle.value.specs.Narrow.{width, valueOf}
 use Rattle.buffers.proofs.Filling.{fewer-fit}
-use Rattle.rows.proofs.Room.{after-room}
-use Rattle.choose.proofs.Passing.{in-range, byte-fits, line-room, line-start, line-lowest, number-low, left-stored}
+use Rattle.choose.proofs.Passing.{LineOf, byte-fits, line-asked, line-there, number-low, left-stored}
 use Rattle.choose.proofs.row.fill_queue.Statement.{statement}
 use Rattle.choose.proofs.row.fill_queue.Tie as tie
 
--- the block's line is within the table, as the code finds it
-line : (c : tie.After-line-at) → c .line-at .result + 3 ≤ length (c .before .before .before .before .before .args .lanes .now)
+-- the block's line
+line : (c : tie.After-line-at) →
+    let a = c .before .before .before .before .before .args in
+    LineOf (viewOf (a .sheet)) (a .sizes) (a .block) (c .line-at .result) (a .lanes .now)
 line c =
     let start = c .before .before .before .before .before in
-    omega (arith, c .line-at .ensures, line-room (start .pre .0) (start .args .block) (start .pre .1 .block-low))
-
--- the lowest last total of the block
-lowest : (c : tie.After-line-at) →
-    let a = c .before .before .before .before .before .args in
-    getD (a .lanes .now) (c .line-at .result + 1) 0 ≡ lowestOf (a .sizes .largest) (a .sizes .bound) (a .block)
-lowest c =
-    let start = c .before .before .before .before .before in
-    ap (λ (p : ℕ). getD (start .args .lanes .now) (p + 1) 0) (c .line-at .ensures) ∙
-    line-lowest (start .pre .0) (start .args .block) (start .pre .1 .block-low)
+    line-there (start .pre .0) (start .pre .1 .block-low) (c .line-at .ensures)
 
 -- the number that the code works out is the queue's
 number : (c : tie.After-line-at) →
     let a = c .before .before .before .before .before .args in
     getD (a .lanes .now) (c .line-at .result) 0 + (a .last - getD (a .lanes .now) (c .line-at .result + 1) 0) ≡
     numberIn (a .sizes .largest) (a .sizes .bound) (a .block) (a .last)
-number c =
-    let start = c .before .before .before .before .before in
-    omega (
-      arith,
-      lowest c,
-      ap (λ (p : ℕ). getD (start .args .lanes .now) p 0) (c .line-at .ensures) ∙
-          line-start (start .pre .0) (start .args .block) (start .pre .1 .block-low),
-    )
+number c = omega (arith, line c)
 
 -- and one
 low : (c : tie.After-line-at) →
@@ -48,15 +33,12 @@ low : (c : tie.After-line-at) →
     getD (a .lanes .now) (c .line-at .result) 0 + (a .last - getD (a .lanes .now) (c .line-at .result + 1) 0) < a .sizes .queues
 low c =
     let start = c .before .before .before .before .before in
-    omega (arith, number c, number-low (start .pre .0) (start .args .block) (start .pre .1 .block-low) (start .args .last) (start .pre .1))
+    omega (arith, number c, number-low (start .pre .0) (start .pre .1))
 
 line-at-requires : tie.Need-line-at-requires
 line-at-requires c κs =
-    let start = c .before .before .before .before in (
-      omega arith,
-      omega (arith, in-range (start .pre .0) .speeds-high),
-      omega (arith, start .pre .1 .block-low, after-room (start .pre .0 .measured)),
-    )
+    let start = c .before .before .before .before in
+    line-asked (start .pre .0) (start .pre .1 .block-low)
 
 mul-number : tie.Need-mul-number
 mul-number c = omega (arith, line c)
@@ -77,7 +59,7 @@ shared-slice-read-number-2 : tie.Need-shared-slice-read-number-2
 shared-slice-read-number-2 c = omega (arith, line (c .before .before))
 
 sub-number : tie.Need-sub-number
-sub-number c = omega (arith, lowest (c .before .before), c .before .before .before .before .before .before .before .pre .1 .last-low)
+sub-number c = omega (arith, line (c .before .before) .lowest-is, c .before .before .before .before .before .before .before .pre .1 .last-low)
 
 cast-number-2 : tie.Need-cast-number-2
 cast-number-2 c = search needs
