@@ -24,9 +24,7 @@ module _ (width : Width) (M D : ℕ) (ahead : List ℕ) (scale : Option ℕ) (w 
   cost-none e = go (leb (total w 1) speed) refl
     where
       go : (b : Bool) → leb (total w 1) speed ≡ b → only b (plus (valueInRow width M ahead 0 (afterOf D w speed)) (times energy scale)) ≡ none
-      go true q =
-          ap (λ (r : Option ℕ). plus r (times energy scale))
-          (none-in-row width M ahead 0 (afterOf D w speed) (ap (λ (b : Bool). b && bearable M (afterOf D w speed)) (sym q) ∙ e))
+      go true q = rw (none-in-row width M ahead 0 (afterOf D w speed) (rw q at e))
       go false q = refl
 
   -- else what the buffer has at the number of the queue after the slot, and the scaled energy
@@ -35,8 +33,5 @@ module _ (width : Width) (M D : ℕ) (ahead : List ℕ) (scale : Option ℕ) (w 
   unfolding costBy
   cost-some t =
       let parts = leads-parts M D w speed t in
-      ap (λ (b : Bool). only b (plus (valueInRow width M ahead 0 (afterOf D w speed)) (times energy scale)))
-      (le-leb (total w 1) speed (parts .0)) ∙
-      ap (λ (r : Option ℕ). plus r (times energy scale))
-      (read-in-row width M ahead 0 (afterOf D w speed) (holds-true (bearable M (afterOf D w speed)) (parts .1)) ∙
-      ap (valueIn width ahead) (zero-add (numberOf M (afterOf D w speed))))
+      let bearable-after = holds-true (bearable M (afterOf D w speed)) (parts .1) in
+      rw (le-leb (total w 1) speed (parts .0), read-in-row width M ahead 0 (afterOf D w speed) bearable-after, zero-add)
