@@ -31,13 +31,6 @@ use Rattle.entry_lanes.proofs.Lanes.{lane-says, steps-each, steps-past}
 use Rattle.ahead.specs.Pass.{Given, Within, Stepped, sumLeft, stepped, riseOf}
 use Rattle.ahead.proofs.Adding.{sum-none}
 
--- the line of block b, at a place of the table
-abbrev pub LineOf : View → Sizes → ℕ → ℕ → List ℕ → Type 0
-LineOf s sizes b =
-    Line (s .jobCount) (startOf (sizes .largest) (pred (sizes .bound)) b) (lowestOf (sizes .largest) (pred (sizes .bound)) b)
-    (stepsTo (sizes .largest) (sizes .bound) s (firstAfter (sizes .largest) (sizes .bound) b) (s .jobCount))
-    (λ j. laneOf (sizes .largest) (joined s (firstAfter (sizes .largest) (sizes .bound) b) j))
-
 -- less what an entry has lifted, what a lane has risen to is the number of a queue
 pub record Lifted (queues risen lifted : ℕ) : Type 0 where
   pub lifted-small : lifted ≤ 48 * 255
@@ -52,6 +45,12 @@ module _ {width : Width} {s : View} {sizes : Sizes} {lanes : List ℕ} {next : �
 
   abbrev D : ℕ
   D = sizes .bound
+
+  -- the line of block b, at a place of the table
+  abbrev pub LineAt : ℕ → ℕ → Type 0
+  LineAt b at =
+      Line (s .jobCount) (startOf M (pred D) b) (lowestOf M (pred D) b) (stepsTo M D s (firstAfter M D b) (s .jobCount))
+      (λ j. laneOf M (joined s (firstAfter M D b) j)) at lanes
 
   -- the sheet keeps its ranges
   in-range : Ranged s
@@ -81,7 +80,7 @@ module _ {width : Width} {s : View} {sizes : Sizes} {lanes : List ℕ} {next : �
     pub line-asked : (32 ≤ 32) × (s .jobCount ≤ 32) × (b ≤ 65535)
     line-asked = (omega arith, in-range .jobs-high, omega (arith, blocks-few (given .measured)))
 
-    pub line-there : {at : ℕ} → at ≡ lineAt 32 (s .jobCount) b → LineOf s sizes b at lanes
+    pub line-there : {at : ℕ} → at ≡ lineAt 32 (s .jobCount) b → LineAt b at
     line-there = line-found (given .table .lines) block-low
 
     -- the last total of the block's first queue

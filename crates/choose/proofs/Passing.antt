@@ -1,7 +1,7 @@
 -- What the table and the buffer say in the queue of a block that has a last total: the proofs of src/least.rt and src/row.rt stand on these
 -- laws, which hold at any width of a value.
 use Prim.Native.Nat.{ℕ, suc, pred, max, _+_, _-_, _*_, _≤_, _<_}
-use mathlib.Core.Path.{_≡_, refl, sym, ap, _∙_, subst}
+use mathlib.Core.Path.{_≡_, refl, sym, ap, subst}
 use mathlib.Core.Bool.{Bool, false}
 use mathlib.Core.List.{List}
 use mathlib.Core.Logic.{_⊎_, inl, inr}
@@ -35,13 +35,6 @@ use Rattle.choose.specs.Pass.{Given, Within, valueLeft, byteLeft, Left}
 use Rattle.choose.proofs.Choices.{least-small}
 use Rattle.choose.proofs.Costs.{cost-none, cost-some}
 
--- the line of block b, at a place of the table
-abbrev pub LineOf : View → Sizes → ℕ → ℕ → List ℕ → Type 0
-LineOf s sizes b =
-    Line (s .speedCount) (startOf (sizes .largest) (sizes .bound) b) (lowestOf (sizes .largest) (sizes .bound) b)
-    (slowestIn (sizes .largest) (sizes .bound) s (firstOf (sizes .largest) (sizes .bound) b))
-    (λ j. laneOf (sizes .largest) (sizes .bound) (firstOf (sizes .largest) (sizes .bound) b) (speedAt s j))
-
 module _ {width : Width} {s : View} {sizes : Sizes} {scale : Option ℕ} {lanes ahead : List ℕ}
     (given : Given width s sizes scale lanes ahead) where
   abbrev M : ℕ
@@ -49,6 +42,12 @@ module _ {width : Width} {s : View} {sizes : Sizes} {scale : Option ℕ} {lanes 
 
   abbrev D : ℕ
   D = sizes .bound
+
+  -- the line of block b, at a place of the table
+  abbrev pub LineAt : ℕ → ℕ → Type 0
+  LineAt b at =
+      Line (s .speedCount) (startOf M D b) (lowestOf M D b) (slowestIn M D s (firstOf M D b)) (λ j. laneOf M D (firstOf M D b) (speedAt s j))
+      at lanes
 
   -- the sheet keeps its ranges
   in-range : Ranged s
@@ -95,7 +94,7 @@ module _ {width : Width} {s : View} {sizes : Sizes} {scale : Option ℕ} {lanes 
     pub line-asked : (9 ≤ 32) × (s .speedCount ≤ 32) × (b ≤ 65535)
     line-asked = (omega arith, omega (arith, in-range .speeds-high), omega (arith, after-room (given .measured)))
 
-    pub line-there : {at : ℕ} → at ≡ lineAt 9 (s .speedCount) b → LineOf s sizes b at lanes
+    pub line-there : {at : ℕ} → at ≡ lineAt 9 (s .speedCount) b → LineAt b at
     line-there = line-found (given .table .lines) block-low
 
     -- from the place of the slowest speed on every speed leads on from the first queue

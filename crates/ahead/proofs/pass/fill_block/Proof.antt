@@ -1,7 +1,7 @@
 -- `fill_block` meets its contract. The loop's invariant: the queues of the block's first so many steps are filled, and a lane has risen as
 -- far as it does in as many steps.
 use Prim.Native.Nat.{ℕ, suc, pred, _+_, _-_, _*_, _≤_, _<_}
-use mathlib.Core.Path.{_≡_, ap, subst}
+use mathlib.Core.Path.{_≡_, ap}
 use native.Mathlib.Omega.{arith}
 use lib.ListN.{getD}
 use Rattle.model.specs.View.{viewOf}
@@ -15,7 +15,7 @@ use Rattle.rows.proofs.Blocks.{block-none, block-more}
 use Rattle.rows.proofs.Room.{after-room}
 use Rattle.sheets.specs.declared.sizes.Sizes.{Sizes}
 use Rattle.ahead.specs.Pass.{Within, sumLeft, riseOf, stepped}
-use Rattle.ahead.proofs.Passing.{LineOf, most-is, block-low, lowest-high, line-asked, line-there, number-low, risen-small}
+use Rattle.ahead.proofs.Passing.{LineAt, most-is, block-low, lowest-high, line-asked, line-there, number-low, risen-small}
 use Rattle.ahead.proofs.pass.fill_block.Statement.{statement}
 use Rattle.ahead.proofs.pass.fill_block.Tie as tie
 
@@ -30,13 +30,12 @@ abbrev μ-loop : tie.MeasureT-loop
 μ-loop sheet sizes lanes next values block ahead₀ at most lowest first far₀ steps₀ ahead far steps =
     suc (pred (sizes .bound) * sizes .largest) - (lowest + steps)
 
+abbrev started : tie.After-line-at Inv-loop μ-loop → tie.Start Inv-loop μ-loop
+started c = c .before .before .before .before
+
 -- the block's line
-line : (c : tie.After-line-at Inv-loop μ-loop) →
-    let a = c .before .before .before .before .args in
-    LineOf (viewOf (a .sheet)) (a .sizes) (a .block) (c .line-at .result) (a .lanes .now)
-line c =
-    let start = c .before .before .before .before in
-    line-there (start .pre .0) (start .pre .1) (c .line-at .ensures)
+line : (c : tie.After-line-at Inv-loop μ-loop) → LineAt (started c .pre .0) (started c .args .block) (c .line-at .result)
+line c = line-there (started c .pre .0) (started c .pre .1) (c .line-at .ensures)
 
 -- a turn of the loop
 
@@ -58,14 +57,22 @@ module _ (c : tie.Then1 Inv-loop μ-loop) where
   within =
       record { block-low = start .pre .1; steps-high = omega (arith, turn .loop .inv .0, c .if1 .taken, most-is (start .pre .0)) }
 
-  -- which has a number
-  number-few : startOf (sizes .largest) (pred (sizes .bound)) (start .args .block) + turn .loop .steps < 7084
-  number-few = omega (arith, number-low (start .pre .0) within, after-room (start .pre .0 .measured))
+  -- so that no number is large: the queue's, the last total as the code works it out, and how far a lane has risen
+  high : (startOf (sizes .largest) (pred (sizes .bound)) (start .args .block) + turn .loop .steps < 7084) ×
+      (getD (start .args .lanes .now) (turn .before .before .before .before .before .line-at .result + 1) 0 + turn .loop .steps ≤
+      pred (sizes .bound) * sizes .largest) ×
+      (pred (sizes .bound) * sizes .largest + sizes .largest ≡ sizes .bound * sizes .largest) × (sizes .bound * sizes .largest ≤ 48) ×
+      (turn .loop .far ≤ 48 * 49)
+  high = (
+    omega (arith, number-low (start .pre .0) within, after-room (start .pre .0 .measured)),
+    omega (arith, turn .loop .inv .0, within),
+    most-is (start .pre .0) .0,
+    most-is (start .pre .0) .1,
+    omega (arith, turn .loop .inv .3, risen-small (start .pre .0) within),
+  )
 
 line-at-requires : tie.Need-line-at-requires Inv-loop μ-loop
-line-at-requires c κs =
-    let start = c .before .before .before in
-    line-asked (start .pre .0) (start .pre .1)
+line-at-requires c κs = line-asked (c .before .before .before .pre .0) (c .before .before .before .pre .1)
 
 cast-most : tie.Need-cast-most Inv-loop μ-loop
 cast-most c = omega (arith, c .before .before .before .before .before .pre .0 .measured .ranges .bound-high)
@@ -94,7 +101,7 @@ cast-first c = omega (arith, c .shared-slice-known4 .given (c .before .before .b
 loop-holds : tie.Need-loop-holds Inv-loop μ-loop
 loop-holds c =
     let at = c .before .before .before .before in
-    let start = at .before .before .before .before in (
+    let start = started at in (
       line at .lowest-is,
       line at .number-is,
       omega (arith, line at .lowest-is, lowest-high (start .pre .0) (start .pre .1)),
@@ -112,10 +119,10 @@ sum-at-requires : tie.Need-sum-at-requires Inv-loop μ-loop
 sum-at-requires c κs = (start c .pre .0, within c, turn c .loop .inv .3)
 
 cast-store : tie.Need-cast-store Inv-loop μ-loop
-cast-store c = omega (arith, number-few (c .before .before))
+cast-store c = omega (arith, high (c .before .before))
 
 add-store : tie.Need-add-store Inv-loop μ-loop
-add-store c = omega (arith, turn (c .before .before) .loop .inv .1, number-few (c .before .before))
+add-store c = omega (arith, turn (c .before .before) .loop .inv .1, high (c .before .before))
 
 store-requires : tie.Need-store-requires Inv-loop μ-loop
 store-requires c κs =
@@ -125,35 +132,22 @@ store-requires c κs =
     (omega (arith, start t .pre .2, l .inv .4 .same-length))
 
 add-far : tie.Need-add-far Inv-loop μ-loop
-add-far c = omega (arith, most-is (start (c .before .before .before .before .before) .pre .0))
-
--- the lowest last total and the steps, behind the store
-steps-low : (c : tie.Then1 Inv-loop μ-loop) →
-    let t = turn c in
-    getD (start c .args .lanes .now) (t .before .before .before .before .before .line-at .result + 1) 0 + t .loop .steps ≤
-    sizes c .bound * sizes c .largest
-steps-low c = omega (arith, turn c .loop .inv .0, within c, most-is (start c .pre .0))
+add-far c = omega (arith, high (c .before .before .before .before .before))
 
 sub-far : tie.Need-sub-far Inv-loop μ-loop
-sub-far c = omega (arith, steps-low (c .before .before .before .before .before))
+sub-far c = omega (arith, high (c .before .before .before .before .before))
 
 sub-far-2 : tie.Need-sub-far-2 Inv-loop μ-loop
-sub-far-2 c = omega (arith, steps-low (c .before .before .before .before .before))
+sub-far-2 c = omega (arith, high (c .before .before .before .before .before))
 
 add-far-2 : tie.Need-add-far-2 Inv-loop μ-loop
-add-far-2 c =
-    let t = c .before .before .before .before .before in
-    omega (arith, turn t .loop .inv .3, risen-small (start t .pre .0) (within t), most-is (start t .pre .0))
+add-far-2 c = omega (arith, high (c .before .before .before .before .before))
 
 add-steps : tie.Need-add-steps Inv-loop μ-loop
-add-steps c =
-    let t = c .before .before .before .before .before in
-    omega (arith, within t, most-is (start t .pre .0))
+add-steps c = omega (arith, high (c .before .before .before .before .before))
 
 loop-less : tie.Need-loop-less Inv-loop μ-loop
-loop-less c =
-    let t = c .before .before .before .before .before in
-    omega (arith, turn t .loop .inv .0, within t)
+loop-less c = omega (arith, high (c .before .before .before .before .before))
 
 loop-again : tie.Need-loop-again Inv-loop μ-loop
 loop-again c =

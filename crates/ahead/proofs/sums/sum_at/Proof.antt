@@ -2,23 +2,19 @@
 use mathlib.Core.Path.{sym, _∙_}
 use native.Mathlib.Omega.{arith}
 use borrow.Author.Needs.{needs}
-use Rattle.model.specs.View.{viewOf}
-use Rattle.ahead.proofs.Passing.{LineOf, line-asked, line-there, sum-past}
+use Rattle.ahead.proofs.Passing.{LineAt, line-asked, line-there, sum-past}
 use Rattle.ahead.proofs.sums.sum_at.Statement.{statement}
 use Rattle.ahead.proofs.sums.sum_at.Tie as tie
 
+abbrev started : tie.After-line-at → tie.Start
+started c = c .before .before .before
+
 -- the block's line
-line : (c : tie.After-line-at) →
-    let a = c .before .before .before .args in
-    LineOf (viewOf (a .sheet)) (a .sizes) (a .block) (c .line-at .result) (a .lanes .now)
-line c =
-    let start = c .before .before .before in
-    line-there (start .pre .0) (start .pre .1 .block-low) (c .line-at .ensures)
+line : (c : tie.After-line-at) → LineAt (started c .pre .0) (started c .args .block) (c .line-at .result)
+line c = line-there (started c .pre .0) (started c .pre .1 .block-low) (c .line-at .ensures)
 
 line-at-requires : tie.Need-line-at-requires
-line-at-requires c κs =
-    let start = c .before .before in
-    line-asked (start .pre .0) (start .pre .1 .block-low)
+line-at-requires c κs = line-asked (c .before .before .pre .0) (c .before .before .pre .1 .block-low)
 
 add-if1 : tie.Need-add-if1
 add-if1 c = omega (arith, line c)
@@ -34,16 +30,14 @@ none-requires c κs = search needs
 
 returns : tie.Need-returns
 returns c =
-    let start = c .before .before .before .before .before .before in
-    c .none .ensures ∙
-    sym (sum-past (start .pre .0) (start .pre .1) (omega (arith, c .before .if1 .taken, line (c .before .before .before) .third-is)))
+    let at = c .before .before .before in
+    c .none .ensures ∙ sym (sum-past (started at .pre .0) (started at .pre .1) (omega (arith, c .before .if1 .taken, line at .third-is)))
 
 sum-of-requires : tie.Need-sum-of-requires
 sum-of-requires c κs =
-    let start = c .before .before .before .before .before in (
-      start .pre .0,
-      record { within = start .pre .1; far-is = start .pre .2; before-end = omega (arith, c .if1 .left, line (c .before .before) .third-is) },
-    )
+    let at = c .before .before in
+    let pre = started at .pre in
+    (pre .0, record { within = pre .1; far-is = pre .2; before-end = omega (arith, c .if1 .left, line at .third-is) })
 
 returns-2 : tie.Need-returns-2
 returns-2 c = search needs

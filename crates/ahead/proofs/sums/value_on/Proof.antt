@@ -4,34 +4,28 @@ use mathlib.Core.Path.{_∙_}
 use native.Mathlib.Omega.{arith}
 use borrow.Author.Needs.{needs}
 use lib.ListN.{getD}
-use Rattle.model.specs.View.{viewOf}
 use Rattle.value.specs.Narrow.{width}
 use Rattle.buffers.proofs.Filling.{fewer-fit}
-use Rattle.ahead.proofs.Passing.{LineOf, Lifted, columns-room, line-asked, line-there, lane-lifted, value-there}
+use Rattle.ahead.proofs.Passing.{LineAt, Lifted, columns-room, line-asked, line-there, lane-lifted, value-there}
 use Rattle.ahead.proofs.sums.value_on.Statement.{statement}
 use Rattle.ahead.proofs.sums.value_on.Tie as tie
 
+abbrev started : tie.After-line-at → tie.Start
+started c = c .before .before .before
+
 -- the block's line
-line : (c : tie.After-line-at) →
-    let a = c .before .before .before .args in
-    LineOf (viewOf (a .sheet)) (a .sizes) (a .block) (c .line-at .result) (a .lanes .now)
-line c =
-    let start = c .before .before .before in
-    line-there (start .pre .0) (start .pre .1 .within .block-low) (c .line-at .ensures)
+line : (c : tie.After-line-at) → LineAt (started c .pre .0) (started c .args .block) (c .line-at .result)
+line c = line-there (started c .pre .0) (started c .pre .1 .within .block-low) (c .line-at .ensures)
 
 -- what is read of the lane and of the lift
 told : (c : tie.After-line-at) →
-    let a = c .before .before .before .args in
+    let a = started c .args in
     Lifted (a .sizes .queues) (getD (a .lanes .now) (c .line-at .result + 3 + a .place) 0 + a .far)
     (a .steps * getD (a .lanes .now) (32 + a .place) 0)
-told c =
-    let start = c .before .before .before in
-    lane-lifted (start .pre .0) (start .pre .1) (start .pre .2) (c .line-at .ensures)
+told c = lane-lifted (started c .pre .0) (started c .pre .1) (started c .pre .2) (c .line-at .ensures)
 
 line-at-requires : tie.Need-line-at-requires
-line-at-requires c κs =
-    let start = c .before .before in
-    line-asked (start .pre .0) (start .pre .1 .within .block-low)
+line-at-requires c κs = line-asked (c .before .before .pre .0) (c .before .before .pre .1 .within .block-low)
 
 add-on : tie.Need-add-on
 add-on c = omega (arith, line c)
@@ -55,9 +49,7 @@ mul-on-2 : tie.Need-mul-on-2
 mul-on-2 c = search needs
 
 shared-slice-read-on-2 : tie.Need-shared-slice-read-on-2
-shared-slice-read-on-2 c =
-    let start = c .before .before .before .before .before in
-    omega (arith, columns-room (start .pre .0))
+shared-slice-read-on-2 c = omega (arith, columns-room (started (c .before .before) .pre .0))
 
 mul-on-3 : tie.Need-mul-on-3
 mul-on-3 c = omega (arith, told (c .before .before))
@@ -70,18 +62,16 @@ cast-load c = omega (arith, told (c .before .before))
 
 add-load : tie.Need-add-load
 add-load c =
-    let start = c .before .before .before .before .before in
+    let start = started (c .before .before) in
     omega (arith, told (c .before .before), start .pre .0 .room, start .good .1 .1 .1 .1 .0 .0)
 
 load-requires : tie.Need-load-requires
-load-requires c κs =
-    let start = c .before .before .before .before .before in
-    fewer-fit width (omega (arith, told (c .before .before))) (start .pre .0 .room)
+load-requires c κs = fewer-fit width (omega (arith, told (c .before .before))) (started (c .before .before) .pre .0 .room)
 
 returns : tie.Need-returns
 returns c =
     let at = c .before .before .before in
-    let start = at .before .before .before in
+    let start = started at in
     c .load .ensures ∙ value-there (start .pre .0) (start .pre .1) (start .pre .2) (at .line-at .ensures)
 
 pub value-on-spec : {M : Type 1} → statement M

@@ -9,7 +9,7 @@ use Rattle.value.specs.Narrow.{width, valueOf}
 use Rattle.speed_lanes.specs.Lanes.{leadsOn, slowestIn}
 use Rattle.choose.specs.Choice.{costAt, leastTo, IsChoice}
 use Rattle.choose.proofs.Choices.{least-begun, least-more, least-whole}
-use Rattle.choose.proofs.Passing.{LineOf, columns-room, line-asked, line-there, slower-none}
+use Rattle.choose.proofs.Passing.{LineAt, columns-room, line-asked, line-there, slower-none}
 use Rattle.choose.proofs.least.choose.Statement.{statement}
 use Rattle.choose.proofs.least.choose.Tie as tie
 
@@ -24,21 +24,18 @@ Inv-loop sheet sizes scale lanes ahead block last best₀ place₀ best place =
 abbrev μ-loop : tie.MeasureT-loop
 μ-loop sheet sizes scale lanes ahead block last best₀ place₀ best place = sheet .«speed_count» - place
 
+abbrev started : tie.After-line-at Inv-loop μ-loop → tie.Start Inv-loop μ-loop
+started c = c .before .before .before .before
+
 -- the block's line
-line : (c : tie.After-line-at Inv-loop μ-loop) →
-    let a = c .before .before .before .before .args in
-    LineOf (viewOf (a .sheet)) (a .sizes) (a .block) (c .line-at .result) (a .lanes .now)
-line c =
-    let start = c .before .before .before .before in
-    line-there (start .pre .0) (start .pre .1 .block-low) (c .line-at .ensures)
+line : (c : tie.After-line-at Inv-loop μ-loop) → LineAt (started c .pre .0) (started c .args .block) (c .line-at .result)
+line c = line-there (started c .pre .0) (started c .pre .1 .block-low) (c .line-at .ensures)
 
 none-requires : tie.Need-none-requires Inv-loop μ-loop
 none-requires c κs = tt
 
 line-at-requires : tie.Need-line-at-requires Inv-loop μ-loop
-line-at-requires c κs =
-    let start = c .before .before .before in
-    line-asked (start .pre .0) (start .pre .1 .block-low)
+line-at-requires c κs = line-asked (c .before .before .before .pre .0) (c .before .before .before .pre .1 .block-low)
 
 add-place : tie.Need-add-place Inv-loop μ-loop
 add-place c = omega (arith, line c)

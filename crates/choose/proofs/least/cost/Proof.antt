@@ -7,17 +7,16 @@ use lib.ListN.{getD}
 use Rattle.model.specs.View.{viewOf}
 use Rattle.value.specs.Narrow.{width}
 use Rattle.buffers.proofs.Filling.{fewer-fit}
-use Rattle.choose.proofs.Passing.{LineOf, columns-room, end-small, line-asked, line-there, cost-past, found-low, cost-there, cost-fits}
+use Rattle.choose.proofs.Passing.{LineAt, columns-room, end-small, line-asked, line-there, cost-past, found-low, cost-there, cost-fits}
 use Rattle.choose.proofs.least.cost.Statement.{statement}
 use Rattle.choose.proofs.least.cost.Tie as tie
 
+abbrev started : tie.After-line-at → tie.Start
+started c = c .before .before .before
+
 -- the block's line
-line : (c : tie.After-line-at) →
-    let a = c .before .before .before .args in
-    LineOf (viewOf (a .sheet)) (a .sizes) (a .block) (c .line-at .result) (a .lanes .now)
-line c =
-    let start = c .before .before .before in
-    line-there (start .pre .0) (start .pre .1 .block-low) (c .line-at .ensures)
+line : (c : tie.After-line-at) → LineAt (started c .pre .0) (started c .args .block) (c .line-at .result)
+line c = line-there (started c .pre .0) (started c .pre .1 .block-low) (c .line-at .ensures)
 
 -- the place that the lane leads to is one
 there : (c : tie.After-shared-slice-known5) →
@@ -31,9 +30,7 @@ there c =
     (at .line-at .ensures) (c .before .before .larger .ensures) (c .before .above .ensures)
 
 line-at-requires : tie.Need-line-at-requires
-line-at-requires c κs =
-    let start = c .before .before in
-    line-asked (start .pre .0) (start .pre .1 .block-low)
+line-at-requires c κs = line-asked (c .before .before .pre .0) (c .before .before .pre .1 .block-low)
 
 mul-speed : tie.Need-mul-speed
 mul-speed c = search needs

@@ -9,7 +9,7 @@ use Rattle.buffers.proofs.Filling.{value-local, number-local}
 use Rattle.rows.proofs.Blocks.{block-none, block-more}
 use Rattle.rows.proofs.Room.{most-total}
 use Rattle.choose.specs.Pass.{Within, LeftWhere}
-use Rattle.choose.proofs.Passing.{LineOf, block-low, lowest-high, line-asked, line-there}
+use Rattle.choose.proofs.Passing.{LineAt, block-low, lowest-high, line-asked, line-there}
 use Rattle.choose.proofs.row.fill_block.Statement.{statement}
 use Rattle.choose.proofs.row.fill_block.Tie as tie
 
@@ -22,15 +22,12 @@ Inv-loop sheet sizes scale lanes ahead block this row values₀ plan₀ end last
 abbrev μ-loop : tie.MeasureT-loop
 μ-loop sheet sizes scale lanes ahead block this row values₀ plan₀ end last₀ values plan last = suc end - last
 
+abbrev started : tie.After-line-at Inv-loop μ-loop → tie.Start Inv-loop μ-loop
+started c = c .before .before .before .before .before .before .before
+
 -- the block's line
-
-abbrev found : tie.After-line-at Inv-loop μ-loop → tie.Start Inv-loop μ-loop
-found c = c .before .before .before .before .before .before .before
-
-line : (c : tie.After-line-at Inv-loop μ-loop) →
-    let a = found c .args in
-    LineOf (viewOf (a .sheet)) (a .sizes) (a .block) (c .line-at .result) (a .lanes .now)
-line c = line-there (found c .pre .0) (found c .pre .1) (c .line-at .ensures)
+line : (c : tie.After-line-at Inv-loop μ-loop) → LineAt (started c .pre .0) (started c .args .block) (c .line-at .result)
+line c = line-there (started c .pre .0) (started c .pre .1) (c .line-at .ensures)
 
 -- a turn of the loop
 
@@ -55,9 +52,7 @@ mul-end : tie.Need-mul-end Inv-loop μ-loop
 mul-end c = omega (arith, most-total (c .before .before .before .before .before .before .pre .0 .measured))
 
 line-at-requires : tie.Need-line-at-requires Inv-loop μ-loop
-line-at-requires c κs =
-    let start = c .before .before .before .before .before .before in
-    line-asked (start .pre .0) (start .pre .1)
+line-at-requires c κs = line-asked (c .before .before .before .before .before .before .pre .0) (c .before .before .before .before .before .before .pre .1)
 
 add-last : tie.Need-add-last Inv-loop μ-loop
 add-last c = omega (arith, line c)
@@ -70,7 +65,7 @@ shared-slice-read-last c = omega (arith, line (c .before))
 
 loop-holds : tie.Need-loop-holds Inv-loop μ-loop
 loop-holds c =
-    let start = found (c .before) in
+    let start = started (c .before) in
     let lowest = line (c .before) .lowest-is in
     let low = block-low (start .pre .0) (start .pre .1) in (
       omega arith,

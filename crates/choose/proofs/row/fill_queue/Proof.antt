@@ -8,37 +8,26 @@ use Rattle.model.specs.View.{viewOf}
 use Rattle.queues.specs.Blocks.{numberIn}
 use Rattle.value.specs.Narrow.{width, valueOf}
 use Rattle.buffers.proofs.Filling.{fewer-fit}
-use Rattle.choose.proofs.Passing.{LineOf, byte-fits, line-asked, line-there, number-low, left-stored}
+use Rattle.choose.proofs.Passing.{LineAt, byte-fits, line-asked, line-there, number-low, left-stored}
 use Rattle.choose.proofs.row.fill_queue.Statement.{statement}
 use Rattle.choose.proofs.row.fill_queue.Tie as tie
 
+abbrev started : tie.After-line-at → tie.Start
+started c = c .before .before .before .before .before
+
 -- the block's line
-line : (c : tie.After-line-at) →
-    let a = c .before .before .before .before .before .args in
-    LineOf (viewOf (a .sheet)) (a .sizes) (a .block) (c .line-at .result) (a .lanes .now)
-line c =
-    let start = c .before .before .before .before .before in
-    line-there (start .pre .0) (start .pre .1 .block-low) (c .line-at .ensures)
+line : (c : tie.After-line-at) → LineAt (started c .pre .0) (started c .args .block) (c .line-at .result)
+line c = line-there (started c .pre .0) (started c .pre .1 .block-low) (c .line-at .ensures)
 
--- the number that the code works out is the queue's
+-- the number that the code works out is the queue's, and one
 number : (c : tie.After-line-at) →
-    let a = c .before .before .before .before .before .args in
-    getD (a .lanes .now) (c .line-at .result) 0 + (a .last - getD (a .lanes .now) (c .line-at .result + 1) 0) ≡
-    numberIn (a .sizes .largest) (a .sizes .bound) (a .block) (a .last)
-number c = omega (arith, line c)
-
--- and one
-low : (c : tie.After-line-at) →
-    let a = c .before .before .before .before .before .args in
-    getD (a .lanes .now) (c .line-at .result) 0 + (a .last - getD (a .lanes .now) (c .line-at .result + 1) 0) < a .sizes .queues
-low c =
-    let start = c .before .before .before .before .before in
-    omega (arith, number c, number-low (start .pre .0) (start .pre .1))
+    let a = started c .args in
+    let found = getD (a .lanes .now) (c .line-at .result) 0 + (a .last - getD (a .lanes .now) (c .line-at .result + 1) 0) in
+    (found ≡ numberIn (a .sizes .largest) (a .sizes .bound) (a .block) (a .last)) × (found < a .sizes .queues)
+number c = (omega (arith, line c), omega (arith, line c, number-low (started c .pre .0) (started c .pre .1)))
 
 line-at-requires : tie.Need-line-at-requires
-line-at-requires c κs =
-    let start = c .before .before .before .before in
-    line-asked (start .pre .0) (start .pre .1 .block-low)
+line-at-requires c κs = line-asked (c .before .before .before .before .pre .0) (c .before .before .before .before .pre .1 .block-low)
 
 mul-number : tie.Need-mul-number
 mul-number c = omega (arith, line c)
@@ -59,7 +48,7 @@ shared-slice-read-number-2 : tie.Need-shared-slice-read-number-2
 shared-slice-read-number-2 c = omega (arith, line (c .before .before))
 
 sub-number : tie.Need-sub-number
-sub-number c = omega (arith, line (c .before .before) .lowest-is, c .before .before .before .before .before .before .before .pre .1 .last-low)
+sub-number c = omega (arith, line (c .before .before) .lowest-is, started (c .before .before) .pre .1 .last-low)
 
 cast-number-2 : tie.Need-cast-number-2
 cast-number-2 c = search needs
@@ -72,40 +61,28 @@ choose-requires c κs = search needs
 
 add-store : tie.Need-add-store
 add-store c =
-    let start = c .before .before .before .before .before .before .before .before .before in
-    omega (arith, low (c .before .before .before .before), start .pre .2, start .good .1 .1 .1 .1 .1 .1 .1 .1 .1 .0 .0)
+    let at = c .before .before .before .before in
+    omega (arith, number at .1, started at .pre .2, started at .good .1 .1 .1 .1 .1 .1 .1 .1 .1 .0 .0)
 
 store-requires : tie.Need-store-requires
 store-requires c κs =
-    let start = c .before .before .before .before .before .before .before .before .before in
-    fewer-fit width (omega (arith, low (c .before .before .before .before))) (start .pre .2)
+    let at = c .before .before .before .before in
+    fewer-fit width (omega (arith, number at .1)) (started at .pre .2)
 
 cast-plan : tie.Need-cast-plan
 cast-plan c =
-    omega (
-      arith,
-      byte-fits
-          (c .before .before .before .before .before .before .before .before .before .before .before .before .before .pre .0) _
-          (c .before .before .before .before .before .choose .ensures),
-    )
+    let at = c .before .before .before .before .before .before .before .before in
+    omega (arith, byte-fits (started at .pre .0) _ (c .before .before .before .before .before .choose .ensures))
 
 add-plan : tie.Need-add-plan
 add-plan c =
-    let start = c .before .before .before .before .before .before .before .before .before .before .before .before .before in
-    omega (
-      arith,
-      low (c .before .before .before .before .before .before .before .before),
-      start .pre .3,
-      start .good .1 .1 .1 .1 .1 .1 .1 .1 .1 .1 .0 .0,
-    )
+    let at = c .before .before .before .before .before .before .before .before in
+    omega (arith, number at .1, started at .pre .3, started at .good .1 .1 .1 .1 .1 .1 .1 .1 .1 .1 .0 .0)
 
 slice-write-plan : tie.Need-slice-write-plan
 slice-write-plan c =
-    omega (
-      arith,
-      low (c .before .before .before .before .before .before .before .before),
-      c .before .before .before .before .before .before .before .before .before .before .before .before .before .pre .3,
-    )
+    let at = c .before .before .before .before .before .before .before .before in
+    omega (arith, number at .1, started at .pre .3)
 
 same-length : tie.Need-same-length
 same-length c = search needs
@@ -115,12 +92,11 @@ same-length-2 c = search needs
 
 returns : tie.Need-returns
 returns c =
-    let start = c .before .before .before .before .before .before .before .before .before .before .before .before .before in
-    let a = start .args in
     let at = c .before .before .before .before .before .before .before .before in
-    left-stored width (viewOf (a .sheet)) (a .sizes) (valueOf (a .scale)) (a .ahead .now) (a .this) (a .row) (number at)
+    let a = started at .args in
+    left-stored width (viewOf (a .sheet)) (a .sizes) (valueOf (a .scale)) (a .ahead .now) (a .this) (a .row) (number at .0)
     (c .before .before .before .before .before .choose .ensures) (c .before .before .before .store .ensures)
-    (omega (arith, low at, start .pre .3))
+    (omega (arith, number at .1, started at .pre .3))
 
 pub fill-queue-spec : {M : Type 1} → statement M
 fill-queue-spec =
