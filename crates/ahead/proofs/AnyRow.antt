@@ -17,15 +17,14 @@ use Rattle.model.specs.Queue.{Queue, NeverFalls, bearable}
 use Rattle.model.specs.Refusal.{fieldsRefusal}
 use Rattle.model.proofs.Queues.{length-arrive, listed-bearable}
 use Rattle.model.proofs.Refusal.{W-is}
-use Rattle.model.proofs.Tests.{same-test}
+use Rattle.model.proofs.Tests.{fails-false}
 use Rattle.queues.specs.Blocks.{queueWith}
 use Rattle.slot.proofs.Slots.{length-twice, arrive-not-bearable}
 use Rattle.buffers.specs.Fills.{Fills}
 use Rattle.model.specs.Width.{Width, valueIn}
-use Rattle.value.specs.Values.{Fits}
 use Rattle.value.proofs.Decoding.{bound-fits}
 use Rattle.buffers.proofs.Filling.{fills-same}
-use Rattle.rows.specs.Rows.{valueInRow, afterWith, RowOf}
+use Rattle.rows.specs.Rows.{afterWith, RowOf}
 use Rattle.sheets.specs.Sizes.{Measured}
 use Rattle.sheets.specs.declared.sizes.Sizes.{Sizes}
 use Rattle.rows.proofs.Rows.{row-says}
@@ -55,12 +54,10 @@ module _ (s : View) (f : Queue → Option ℕ) where
   -- where it gives none of each queue that is not bearable, so do its sums: no arrival makes such a queue bearable
   pub sums-strict : (M : ℕ) → 1 ≤ s .jobCount → ((w : Queue) → bearable M w ≡ false → f w ≡ none) → (v : Queue) → NeverFalls v →
       bearable M v ≡ false → sumTo s f v (s .jobCount) ≡ none
-  sums-strict M jobs strict v rises e = sum-none s f v (s .jobCount) 0 jobs (strict (joined s v 0) still)
-    where
-      still : bearable M (joined s v 0) ≡ false
-      still =
-          same-test (bearable M (joined s v 0)) false
-          (λ t. subst T e (arrive-not-bearable M v (sizeAt s 0) (deadlineAt s 0) rises t)) (λ x. absurd x)
+  sums-strict M jobs strict v rises e =
+      sum-none s f v (s .jobCount) 0 jobs
+      (strict (joined s v 0)
+      (fails-false (bearable M (joined s v 0)) (λ t. subst T e (arrive-not-bearable M v (sizeAt s 0) (deadlineAt s 0) rises t))))
 
 module _ (width : Width) (s : View) {sizes : Sizes} (m : Measured sizes) (f : Queue → Option ℕ) {next : ℕ} {values : List ℕ}
     (row : RowOf width (sizes .largest) (sizes .bound) f next values) where
@@ -72,10 +69,8 @@ module _ (width : Width) (s : View) {sizes : Sizes} (m : Measured sizes) (f : Qu
   -- what the pass adds up is what the function gives
   sums-told : (i n : ℕ) → i < sizes .after → sumLeft width s sizes next values i n ≡ sumTo s f (afterWith (sizes .largest) (sizes .bound) i) n
   sums-told i n h =
-      let v = afterWith (sizes .largest) (sizes .bound) i in
-      sum-same s (valueInRow width (sizes .largest) values next) f v n
-      (λ j. row-says width (sizes .largest) (sizes .bound) f next values row (joined s v j)
-      (length-arrive v (sizeAt s j) (deadlineAt s j) ∙ after-long i h))
+      sum-same s _ f (afterWith (sizes .largest) (sizes .bound) i) n
+      (λ j. row-says width (sizes .largest) (sizes .bound) f next values row _ (length-arrive _ (sizeAt s j) (deadlineAt s j) ∙ after-long i h))
 
   -- what it is given, where the function's bound times W passes no limit of a value
   pub given-for : {lanes : List ℕ} (most : ℕ) → fieldsRefusal s ≡ 0 → EntryTable (sizes .largest) (sizes .bound) s lanes →
@@ -87,9 +82,8 @@ module _ (width : Width) (s : View) {sizes : Sizes} (m : Measured sizes) (f : Qu
         table = table;
         room = subst (λ (n : ℕ). (next + n) * width .places ≤ length values) (sym (m .queues-is)) (row .row .room);
         fits = λ i n h k.
-            subst (Fits width) (sym (sums-told i n h))
-            (bound-fits width (sumTo s f (afterWith (sizes .largest) (sizes .bound) i) n)
-            (sums-upto s f most upto (afterWith (sizes .largest) (sizes .bound) i) n k) low);
+            let v = afterWith (sizes .largest) (sizes .bound) i in
+            rw (sums-told i n h) (bound-fits width (sumTo s f v n) (sums-upto s f most upto v n k) low);
       }
 
   -- what it leaves: the sums of the function

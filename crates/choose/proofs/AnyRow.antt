@@ -19,7 +19,6 @@ use Rattle.model.proofs.Queues.{bearable-at, listed-bearable}
 use Rattle.queues.specs.Blocks.{queueWith}
 use Rattle.buffers.specs.Fills.{Fills, numberAt}
 use Rattle.model.specs.Width.{Width, valueIn}
-use Rattle.value.specs.Values.{Fits}
 use Rattle.value.proofs.Decoding.{bound-fits}
 use Rattle.buffers.proofs.Filling.{fills-same}
 use Rattle.rows.specs.Rows.{RowAfter}
@@ -46,7 +45,7 @@ cost-upto : (g : Queue → Option ℕ) (most : ℕ) → ((v : Queue) → UptoOr 
     UptoOr (Unit {0}) (costBy g (some scale) w speed energy) (most + energy * scale)
 unfolding costBy
 cost-upto g most upto scale w speed energy =
-    only-upto (leb (total w 1) speed) (plus (g (run w speed)) (times energy (some scale))) (most + energy * scale)
+    only-upto (leb (total w 1) speed) _ (most + energy * scale)
     (plus-upto (Unit {0}) (g (run w speed)) (some (energy * scale)) most (energy * scale) (upto (run w speed)) (le-refl (energy * scale)))
 
 module _ (width : Width) (s : View) {sizes : Sizes} (m : Measured sizes) (g : Queue → Option ℕ) {ahead : List ℕ}
@@ -87,8 +86,7 @@ module _ (width : Width) (s : View) {sizes : Sizes} (m : Measured sizes) (g : Qu
             subst (λ (n : ℕ). n * width .places ≤ length ahead) (zero-add _ ∙ sym (m .after-is)) (row .row .room);
         fits = λ n j h k.
             let w = queueWith (sizes .largest) (sizes .bound) n in
-            subst (Fits width)
-            (sym (costs-told scale n h j ∙ ap (λ (q : Option ℕ). costBy g q w (speedAt s j) (energyAt s j)) e))
+            rw (costs-told scale n h j, e)
             (bound-fits width (costBy g (some unit) w (speedAt s j) (energyAt s j)) (cost-upto g most upto unit w (speedAt s j) (energyAt s j))
             (low j k));
       }

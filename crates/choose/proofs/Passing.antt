@@ -2,7 +2,7 @@
 -- laws, which hold at any width of a value.
 use Prim.Native.Nat.{ℕ, suc, pred, max, _+_, _-_, _*_, _≤_, _<_}
 use mathlib.Core.Path.{_≡_, refl, sym, ap, subst}
-use mathlib.Core.Bool.{Bool, false}
+use mathlib.Core.Bool.{false}
 use mathlib.Core.List.{List}
 use mathlib.Core.Logic.{_⊎_, inl, inr}
 use mathlib.Core.Option.{Option, none}
@@ -16,7 +16,7 @@ use Rattle.model.specs.Queue.{Queue, total, bearable, queueCount, numberOf, run
 use Rattle.model.proofs.View.{later-faster}
 use Rattle.model.proofs.Queues.{bearable-at, bearable-upto, number-below, length-in, length-run}
 use Rattle.model.proofs.Refusal.{Ranged, ranged}
-use Rattle.model.proofs.Tests.{same-test, first-holds, first-upto, first-within}
+use Rattle.model.proofs.Tests.{fails-false, first-holds, first-upto, first-within}
 use Rattle.queues.specs.Blocks.{queueWith, firstOf, startOf, lowestOf, lastOf, numberIn, InBlock, Alike}
 use Rattle.queues.proofs.Blocks.{block-place, block-alike, first-queue}
 use Rattle.buffers.specs.Fills.{Fills, numberAt}
@@ -31,7 +31,7 @@ use Rattle.rows.proofs.Tables.{Line, line-found}
 use Rattle.speed_lanes.specs.Lanes.{afterOf, leadsOn, slowestIn, laneOf, Lane}
 use Rattle.speed_lanes.proofs.Lanes.{leads-parts, leads-carries, leads-nowhere, lane-says}
 use Rattle.choose.specs.Choice.{costAt, leastIn, IsChoice}
-use Rattle.choose.specs.Pass.{Given, Within, valueLeft, byteLeft, Left}
+use Rattle.choose.specs.Pass.{Given, Within, Left}
 use Rattle.choose.proofs.Choices.{least-small}
 use Rattle.choose.proofs.Costs.{cost-none, cost-some}
 
@@ -62,8 +62,8 @@ module _ {width : Width} {s : View} {sizes : Sizes} {scale : Option ℕ} {lanes 
   most-before = ap (λ (d : ℕ). d * M) (one-fewer D)
 
   -- and a speed, a place of a lane's end
-  pub end-small : (j : ℕ) → j < s .speedCount → (D - 1) * M + getD lanes j 0 ≤ 56
-  end-small j h =
+  pub end-small : {j : ℕ} → j < s .speedCount → (D - 1) * M + getD lanes j 0 ≤ 56
+  end-small {j} h =
       let fewer : D - 1 ≤ D = omega arith in
       omega (arith, mul-le-mul-right M fewer, most-total (given .measured), given .table .columns .firsts j h, in-range .speed-high j h)
 
@@ -97,7 +97,11 @@ module _ {width : Width} {s : View} {sizes : Sizes} {scale : Option ℕ} {lanes 
     pub line-there : {at : ℕ} → at ≡ lineAt 9 (s .speedCount) b → LineAt b at
     line-there = line-found (given .table .lines) block-low
 
-    -- from the place of the slowest speed on every speed leads on from the first queue
+    -- the place of the slowest speed is no more than there are speeds
+    pub slowest-few : slowestIn M D s first ≤ s .speedCount
+    slowest-few = first-within (λ i. leadsOn M D first (speedAt s i)) (s .speedCount)
+
+    -- from it on every speed leads on from the first queue
     leads-from : (j : ℕ) → slowestIn M D s first ≤ j → j < s .speedCount → T (leadsOn M D first (speedAt s j))
     leads-from j low h =
         let k = slowestIn M D s first in
@@ -131,15 +135,11 @@ module _ {width : Width} {s : View} {sizes : Sizes} {scale : Option ℕ} {lanes 
     -- a speed before the slowest that leads on costs none
     pub slower-none : (j : ℕ) → j < slowestIn M D s (firstOf M D b) → costAt width M D s ahead scale w j ≡ none
     slower-none j h =
+        let within : j < s .speedCount = omega (arith, slowest-few (inside .block-low)) in
+        let fails : leadsOn M D (firstOf M D b) (speedAt s j) ≡ false =
+        fails-false _ (λ t. omega (arith, first-upto (λ i. leadsOn M D (firstOf M D b) (speedAt s i)) (s .speedCount) j within t)) in
         cost-none width M D ahead scale w (speedAt s j) (energyAt s j)
-        (leads-nowhere M D (firstOf M D b) w (speedAt s j) (given .measured .bound-low) alike (first-is (inside .block-low) .1) later
-        (same-test (leads j) false (λ t. omega (arith, first-upto leads (s .speedCount) j within t)) (λ f. absurd f)))
-      where
-        leads : ℕ → Bool
-        leads i = leadsOn M D (firstOf M D b) (speedAt s i)
-
-        within : j < s .speedCount
-        within = omega (arith, first-within leads (s .speedCount))
+        (leads-nowhere M D (firstOf M D b) w (speedAt s j) (given .measured .bound-low) alike (first-is (inside .block-low) .1) later fails)
 
     -- every other has a lane
     module _ {j : ℕ} (low : slowestIn M D s (firstOf M D b) ≤ j) (h : j < s .speedCount) where
@@ -190,17 +190,14 @@ module _ {width : Width} {s : View} {sizes : Sizes} {scale : Option ℕ} {lanes 
         cost-fits load = subst (Fits width) (sym (cost-there load)) (given .fits _ j number-low h)
 
 -- what is chosen in a queue, stored in both rows
-pub left-stored : (width : Width) (s : View) (sizes : Sizes) (scale : Option ℕ) (ahead : List ℕ) (this row : ℕ)
-    {n m speed : ℕ} {r : Option ℕ} {values values′ plan : List ℕ} → m ≡ n →
+pub left-stored : {width : Width} {s : View} {sizes : Sizes} {scale : Option ℕ} {ahead : List ℕ} {this row n m speed : ℕ} {r : Option ℕ}
+    {values values′ plan : List ℕ} → m ≡ n →
     IsChoice (leastIn width (sizes .largest) (sizes .bound) s ahead scale (queueWith (sizes .largest) (sizes .bound) n)) speed r →
     Fills (width .places) (valueIn width) (λ i. r) (this + m) 1 values values′ → row + m < length plan →
     Left width s sizes scale ahead this row n values plan values′ (set plan (row + m) speed)
-left-stored width s sizes scale ahead this row {n} {m} {speed} {values = values} {values′ = values′} {plan = plan} e chosen stored low =
-    record {
-      value-filled =
-          subst (λ (k : ℕ). Fills (width .places) (valueIn width) (λ i. valueLeft width s sizes scale ahead n) (this + k) 1 values values′) e
-          (fills-same (width .places) (valueIn width) (λ i h. chosen .value-is) stored);
-      byte-filled =
-          subst (λ (k : ℕ). Fills 1 numberAt (λ i. byteLeft width s sizes scale ahead n) (row + k) 1 plan (set plan (row + m) speed)) e
-          (fills-same 1 numberAt (λ i h. chosen .speed-is) (number-stored plan (row + m) speed low));
-    }
+left-stored {width} {row = row} {n = n} {speed = speed} {plan = plan} e chosen stored low =
+    rw e
+    (record {
+      value-filled = fills-same (width .places) (valueIn width) (λ i h. chosen .value-is) (rw e at stored);
+      byte-filled = fills-same 1 numberAt (λ i h. chosen .speed-is) (number-stored plan (row + n) speed (rw e at low));
+    })

@@ -3,13 +3,12 @@
 use Prim.Native.Nat.{_+_, _-_, _≤_}
 use native.Mathlib.Omega.{arith}
 use Rattle.model.specs.View.{viewOf, speedAt}
-use Rattle.model.proofs.Tests.{first-within}
 use Rattle.queues.specs.Blocks.{queueWith, firstOf, numberIn}
 use Rattle.value.specs.Narrow.{width, valueOf}
-use Rattle.speed_lanes.specs.Lanes.{leadsOn, slowestIn}
+use Rattle.speed_lanes.specs.Lanes.{slowestIn}
 use Rattle.choose.specs.Choice.{costAt, leastTo, IsChoice}
 use Rattle.choose.proofs.Choices.{least-begun, least-more, least-whole}
-use Rattle.choose.proofs.Passing.{LineAt, columns-room, line-asked, line-there, slower-none}
+use Rattle.choose.proofs.Passing.{LineAt, columns-room, line-asked, line-there, slowest-few, slower-none}
 use Rattle.choose.proofs.least.choose.Statement.{statement}
 use Rattle.choose.proofs.least.choose.Tie as tie
 
@@ -31,6 +30,11 @@ started c = c .before .before .before .before
 line : (c : tie.After-line-at Inv-loop μ-loop) → LineAt (started c .pre .0) (started c .args .block) (c .line-at .result)
 line c = line-there (started c .pre .0) (started c .pre .1 .block-low) (c .line-at .ensures)
 
+-- a turn of the loop
+
+abbrev begun : tie.At-loop Inv-loop μ-loop → tie.Start Inv-loop μ-loop
+begun c = c .before .before .before .before .before .before
+
 none-requires : tie.Need-none-requires Inv-loop μ-loop
 none-requires c κs = tt
 
@@ -51,21 +55,12 @@ cast-place c = omega (arith, c .shared-slice-known3 .given (c .before .line-at .
 
 loop-holds : tie.Need-loop-holds Inv-loop μ-loop
 loop-holds c =
-    let start = c .before .before .before .before .before in
-    let a = start .args in
-    let s = viewOf (a .sheet) in
+    let start = started (c .before) in
     let from = line (c .before) .third-is in (
       omega (arith, from),
-      omega (
-        arith,
-        from,
-        first-within
-            (λ j. leadsOn (a .sizes .largest) (a .sizes .bound) (firstOf (a .sizes .largest) (a .sizes .bound) (a .block)) (speedAt s j))
-            (s .speedCount),
-      ),
-      least-begun (speedAt s) _ _
-          (λ j h. slower-none (start .pre .0) (start .pre .1) j (omega (arith, from)))
-          (c .before .before .none .ensures),
+      omega (arith, from, slowest-few (start .pre .0) (start .pre .1 .block-low)),
+      least-begun (speedAt (viewOf (start .args .sheet))) _ _
+          (λ j h. slower-none (start .pre .0) (start .pre .1) j (omega (arith, from))) (c .before .before .none .ensures),
     )
 
 cast-if1 : tie.Need-cast-if1 Inv-loop μ-loop
@@ -74,17 +69,14 @@ cast-if1 c = omega arith
 cost-requires : tie.Need-cost-requires Inv-loop μ-loop
 cost-requires c κs =
     let l = c .before .before in
-    let start = l .before .before .before .before .before .before in
-    (start .pre .0, start .pre .1, l .loop .inv .0, omega (arith, c .if1 .taken))
+    (begun l .pre .0, begun l .pre .1, l .loop .inv .0, omega (arith, c .if1 .taken))
 
 mul-better : tie.Need-mul-better Inv-loop μ-loop
 mul-better c = omega (arith, c .before .if1 .taken)
 
 shared-slice-read-better : tie.Need-shared-slice-read-better Inv-loop μ-loop
 shared-slice-read-better c =
-    let l = c .before .before .before .before in
-    let start = l .before .before .before .before .before .before in
-    omega (arith, c .before .before .if1 .taken, columns-room (start .pre .0))
+    omega (arith, c .before .before .if1 .taken, columns-room (begun (c .before .before .before .before) .pre .0))
 
 better-requires : tie.Need-better-requires Inv-loop μ-loop
 better-requires c κs = tt
@@ -98,7 +90,7 @@ loop-less c = omega (arith, c .before .before .before .if1 .taken)
 loop-again : tie.Need-loop-again Inv-loop μ-loop
 loop-again c =
     let l = c .before .before .before .before .before in
-    let start = l .before .before .before .before .before .before in
+    let start = begun l in
     let low = c .before .before .before .if1 .taken in (
       omega (arith, l .loop .inv .0),
       omega (arith, low),
@@ -110,9 +102,9 @@ loop-again c =
 returns : tie.Need-returns Inv-loop μ-loop
 returns c =
     let l = c .before .before in
-    let start = l .before .before .before .before .before .before in
-    least-whole (speedAt (viewOf (start .args .sheet))) _ (l .loop .place) (start .args .sheet .«speed_count»)
-    (omega (arith, l .loop .inv .1, c .if1 .left)) (l .loop .inv .2)
+    let sheet = begun l .args .sheet in
+    least-whole (speedAt (viewOf sheet)) _ (l .loop .place) (sheet .«speed_count») (omega (arith, l .loop .inv .1, c .if1 .left))
+    (l .loop .inv .2)
 
 pub choose-spec : {M : Type 1} → statement M
 choose-spec =

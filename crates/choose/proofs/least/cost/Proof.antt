@@ -4,7 +4,6 @@ use mathlib.Core.Path.{sym, _∙_}
 use native.Mathlib.Omega.{arith}
 use borrow.Author.Needs.{needs}
 use lib.ListN.{getD}
-use Rattle.model.specs.View.{viewOf}
 use Rattle.value.specs.Narrow.{width}
 use Rattle.buffers.proofs.Filling.{fewer-fit}
 use Rattle.choose.proofs.Passing.{LineAt, columns-room, end-small, line-asked, line-there, cost-past, found-low, cost-there, cost-fits}
@@ -21,11 +20,11 @@ line c = line-there (started c .pre .0) (started c .pre .1 .block-low) (c .line-
 -- the place that the lane leads to is one
 there : (c : tie.After-shared-slice-known5) →
     let at = c .before .before .before .before .before .before .before .before in
-    let a = at .before .before .before .args in
+    let a = started at .args in
     getD (a .lanes .now) (at .line-at .result + 3 + a .place) 0 + c .before .above .result < a .sizes .after
 there c =
     let at = c .before .before .before .before .before .before .before .before in
-    let start = at .before .before .before in
+    let start = started at in
     found-low (start .pre .0) (start .pre .1) (start .pre .2) (start .pre .3) (omega (arith, c .before .before .before .before .if1 .left))
     (at .line-at .ensures) (c .before .before .larger .ensures) (c .before .above .ensures)
 
@@ -36,9 +35,7 @@ mul-speed : tie.Need-mul-speed
 mul-speed c = search needs
 
 shared-slice-read-speed : tie.Need-shared-slice-read-speed
-shared-slice-read-speed c =
-    let start = c .before .before .before .before in
-    omega (arith, columns-room (start .pre .0))
+shared-slice-read-speed c = omega (arith, columns-room (started (c .before) .pre .0))
 
 cast-if1 : tie.Need-cast-if1
 cast-if1 c = search needs
@@ -48,20 +45,20 @@ sub-if1 c = search needs
 
 mul-if1 : tie.Need-mul-if1
 mul-if1 c =
-    let start = c .before .before .before .before .before .before in
-    omega (arith, end-small (start .pre .0) (start .args .place) (start .pre .3))
+    let start = started (c .before .before .before) in
+    omega (arith, end-small (start .pre .0) (start .pre .3))
 
 add-if1 : tie.Need-add-if1
 add-if1 c =
-    let start = c .before .before .before .before .before .before in
-    omega (arith, end-small (start .pre .0) (start .args .place) (start .pre .3))
+    let start = started (c .before .before .before) in
+    omega (arith, end-small (start .pre .0) (start .pre .3))
 
 none-requires : tie.Need-none-requires
 none-requires c κs = search needs
 
 returns : tie.Need-returns
 returns c =
-    let start = c .before .before .before .before .before .before .before .before in
+    let start = started (c .before .before .before .before .before) in
     c .none .ensures ∙
     sym (cost-past (start .pre .0) (start .pre .1) (start .pre .2) (start .pre .3) (omega (arith, c .before .if1 .taken)))
 
@@ -103,8 +100,7 @@ add-load-3 c = omega (arith, there c, c .before .above .ensures)
 
 load-requires : tie.Need-load-requires
 load-requires c κs =
-    let start = c .before .before .before .before .before .before .before .before .before .before .before in
-    fewer-fit width (there c) (start .pre .0 .room)
+    fewer-fit width (there c) (started (c .before .before .before .before .before .before .before .before) .pre .0 .room)
 
 add-add : tie.Need-add-add
 add-add c = search needs
@@ -114,14 +110,13 @@ mul-add c = search needs
 
 shared-slice-read-add : tie.Need-shared-slice-read-add
 shared-slice-read-add c =
-    let start = c .before .before .before .before .before .before .before .before .before .before .before .before .before in
-    omega (arith, columns-room (start .pre .0))
+    omega (arith, columns-room (started (c .before .before .before .before .before .before .before .before .before .before) .pre .0))
 
 add-requires : tie.Need-add-requires
 add-requires c κs =
     let known = c .before .before in
     let at = known .before .before .before .before .before .before .before .before in
-    let start = at .before .before .before in
+    let start = started at in
     cost-fits (start .pre .0) (start .pre .1) (start .pre .2) (start .pre .3) (omega (arith, known .before .before .before .before .if1 .left))
     (at .line-at .ensures) (known .before .before .larger .ensures) (known .before .above .ensures) (c .before .load .ensures)
 
@@ -129,7 +124,7 @@ returns-2 : tie.Need-returns-2
 returns-2 c =
     let known = c .before .before .before in
     let at = known .before .before .before .before .before .before .before .before in
-    let start = at .before .before .before in
+    let start = started at in
     c .add .ensures ∙
     cost-there (start .pre .0) (start .pre .1) (start .pre .2) (start .pre .3) (omega (arith, known .before .before .before .before .if1 .left))
     (at .line-at .ensures) (known .before .before .larger .ensures) (known .before .above .ensures) (c .before .before .load .ensures)

@@ -4,9 +4,8 @@ use mathlib.Core.Path.{_≡_}
 use native.Mathlib.Omega.{arith}
 use borrow.Author.Needs.{needs}
 use lib.ListN.{getD}
-use Rattle.model.specs.View.{viewOf}
 use Rattle.queues.specs.Blocks.{numberIn}
-use Rattle.value.specs.Narrow.{width, valueOf}
+use Rattle.value.specs.Narrow.{width}
 use Rattle.buffers.proofs.Filling.{fewer-fit}
 use Rattle.choose.proofs.Passing.{LineAt, byte-fits, line-asked, line-there, number-low, left-stored}
 use Rattle.choose.proofs.row.fill_queue.Statement.{statement}
@@ -93,9 +92,7 @@ same-length-2 c = search needs
 returns : tie.Need-returns
 returns c =
     let at = c .before .before .before .before .before .before .before .before in
-    let a = started at .args in
-    left-stored width (viewOf (a .sheet)) (a .sizes) (valueOf (a .scale)) (a .ahead .now) (a .this) (a .row) (number at .0)
-    (c .before .before .before .before .before .choose .ensures) (c .before .before .before .store .ensures)
+    left-stored (number at .0) (c .before .before .before .before .before .choose .ensures) (c .before .before .before .store .ensures)
     (omega (arith, number at .1, started at .pre .3))
 
 pub fill-queue-spec : {M : Type 1} → statement M
