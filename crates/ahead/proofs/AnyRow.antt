@@ -67,10 +67,12 @@ module _ (width : Width) (s : View) {sizes : Sizes} (m : Measured sizes) (f : Qu
       omega (arith, listed-bearable (sizes .largest) (pred (sizes .bound)) i (omega (arith, m .after-is)) .0, m .bound-low)
 
   -- what the pass adds up is what the function gives
-  sums-told : (i n : ℕ) → i < sizes .after → sumLeft width s sizes next values i n ≡ sumTo s f (afterWith (sizes .largest) (sizes .bound) i) n
+  sums-told : (i n : ℕ) → i < sizes .after →
+      sumLeft width s sizes next values i n ≡ sumTo s f (afterWith (sizes .largest) (sizes .bound) i) n
   sums-told i n h =
       sum-same s _ f (afterWith (sizes .largest) (sizes .bound) i) n
-      (λ j. row-says width (sizes .largest) (sizes .bound) f next values row _ (length-arrive _ (sizeAt s j) (deadlineAt s j) ∙ after-long i h))
+      (λ j. row-says width (sizes .largest) (sizes .bound) f next values row _
+      (length-arrive _ (sizeAt s j) (deadlineAt s j) ∙ after-long i h))
 
   -- what it is given, where the function's bound times W passes no limit of a value
   pub given-for : {lanes : List ℕ} (most : ℕ) → fieldsRefusal s ≡ 0 → EntryTable (sizes .largest) (sizes .bound) s lanes →

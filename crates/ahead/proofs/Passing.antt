@@ -4,11 +4,12 @@ use Prim.Native.Nat.{ℕ, suc, pred, _+_, _-_, _*_, _≤_, _<_}
 use mathlib.Core.Path.{_≡_, ap, _∙_}
 use mathlib.Core.Bool.{Bool, true, false, cond}
 use mathlib.Core.List.{List}
-use mathlib.Core.Option.{none}
+use mathlib.Core.Option.{Option, none}
 use native.Mathlib.Nat.{mul-le-mul, mul-le-mul-right}
 use native.Mathlib.Omega.{arith}
 use lib.Dec.{T, leb}
 use lib.ListN.{length, getD}
+use Rattle.process.specs.Recursion.{plus, times}
 use Rattle.model.specs.View.{View, sizeAt, deadlineAt}
 use Rattle.model.specs.Queue.{Queue, total, bearable, queueCount, numberOf}
 use Rattle.model.proofs.Queues.{length-arrive, listed-bearable, number-below}
@@ -19,6 +20,7 @@ use Rattle.slot.specs.Slot.{lastTwice}
 use Rattle.queues.proofs.Blocks.{block-place, risen-upto}
 use Rattle.slot.proofs.Slots.{length-twice, last-twice}
 use Rattle.model.specs.Width.{Width, valueIn}
+use Rattle.value.specs.Values.{Fits}
 use Rattle.rows.specs.Rows.{valueInRow, afterWith}
 use Rattle.rows.specs.Tables.{lineAt}
 use Rattle.sheets.specs.declared.sizes.Sizes.{Sizes}
@@ -29,7 +31,7 @@ use Rattle.entry_lanes.specs.Lanes.{firstAfter, joined, liftOf, stepsTo, laneOf
 use Rattle.entry_lanes.proofs.Firsts.{first-of, lowest-upto, most-fewer}
 use Rattle.entry_lanes.proofs.Lanes.{lane-says, steps-each, steps-past}
 use Rattle.ahead.specs.Pass.{Given, Within, Stepped, sumLeft, stepped, riseOf}
-use Rattle.ahead.proofs.Adding.{sum-none}
+use Rattle.ahead.proofs.Adding.{sum-more, sum-none}
 
 -- less what an entry has lifted, what a lane has risen to is the number of a queue
 pub record Lifted (queues risen lifted : ℕ) : Type 0 where
@@ -63,7 +65,8 @@ module _ {width : Width} {s : View} {sizes : Sizes} {lanes : List ℕ} {next : �
   -- D times M, and one less of M
   pub most-is : (pred D * M + M ≡ D * M) × (D * M ≤ 48)
   most-is =
-      (omega (arith, most-fewer M D (given .measured .bound-low), mul-le-mul-right M (given .measured .bound-low)), most-total (given .measured))
+      let low = given .measured .bound-low in
+      (omega (arith, most-fewer M D low, mul-le-mul-right M low), most-total (given .measured))
 
   module _ {b : ℕ} (block : b < sizes .blocks) where
     abbrev first : Queue
@@ -127,8 +130,18 @@ module _ {width : Width} {s : View} {sizes : Sizes} {lanes : List ℕ} {next : �
         sum-none s (valueInRow width M values next) v (s .jobCount) (found .0) (found .1)
         (none-in-row width M values next (joined s v (found .0)) (lane (found .0) .ends (found .2)))
 
+    -- the sum so far, and one entry more
+    pub sum-on : {j : ℕ} {sum here : Option ℕ} → j < s .jobCount → sum ≡ sumLeft width s sizes next values (stepped sizes b k) j →
+        here ≡ valueInRow width M values next (joined s v j) →
+        let more = plus sum (times (getD lanes j 0) here) in
+        (more ≡ sumLeft width s sizes next values (stepped sizes b k) (j + 1)) × Fits width more
+    sum-on {j} h e d =
+        let same = sum-more s (valueInRow width M values next) v j e (given .table .columns .firsts j h) d in
+        (same, rw same (given .fits (stepped sizes b k) (j + 1) number-low (omega arith)))
+
   -- elsewhere each arrival leads to a bearable queue, and what is read in the table tells its number
-  module _ {b k far : ℕ} (at : Stepped s sizes b k far) {j : ℕ} (h : j < s .jobCount) {line : ℕ} (e : line ≡ lineAt 32 (s .jobCount) b) where
+  module _ {b k far : ℕ} (at : Stepped s sizes b k far) {j : ℕ} (h : j < s .jobCount) {line : ℕ}
+      (e : line ≡ lineAt 32 (s .jobCount) b) where
     abbrev w : Queue
     w = joined s (afterWith M D (stepped sizes b k)) j
 

@@ -87,8 +87,8 @@ module _ (width : Width) (s : View) {sizes : Sizes} (m : Measured sizes) (g : Qu
         fits = λ n j h k.
             let w = queueWith (sizes .largest) (sizes .bound) n in
             rw (costs-told scale n h j, e)
-            (bound-fits width (costBy g (some unit) w (speedAt s j) (energyAt s j)) (cost-upto g most upto unit w (speedAt s j) (energyAt s j))
-            (low j k));
+            (bound-fits width (costBy g (some unit) w (speedAt s j) (energyAt s j))
+            (cost-upto g most upto unit w (speedAt s j) (energyAt s j)) (low j k));
       }
 
   -- what it leaves: what the least by the function is worth, and its speed

@@ -55,8 +55,8 @@ module _ (speed : ℕ → ℕ) (cost : ℕ → Option ℕ) where
   least-begun k dear e = rw (nothing-least k dear) (record { speed-is = refl; value-is = e })
 
   -- one more
-  pub least-more : (j : ℕ) {before a best : ℕ} {r here q : Option ℕ} → a ≡ speed j → here ≡ cost j → IsChoice (leastTo speed cost j) before r →
-      IsBetter before r a here best q → IsChoice (leastTo speed cost (j + 1)) best q
+  pub least-more : (j : ℕ) {before a best : ℕ} {r here q : Option ℕ} → a ≡ speed j → here ≡ cost j →
+      IsChoice (leastTo speed cost j) before r → IsBetter before r a here best q → IsChoice (leastTo speed cost (j + 1)) best q
   unfolding leastTo
   least-more j e d so-far more = rw (add-one, ← e, ← d) (more (leastTo speed cost j) so-far)
 

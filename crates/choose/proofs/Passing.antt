@@ -46,8 +46,8 @@ module _ {width : Width} {s : View} {sizes : Sizes} {scale : Option ℕ} {lanes 
   -- the line of block b, at a place of the table
   abbrev pub LineAt : ℕ → ℕ → Type 0
   LineAt b at =
-      Line (s .speedCount) (startOf M D b) (lowestOf M D b) (slowestIn M D s (firstOf M D b)) (λ j. laneOf M D (firstOf M D b) (speedAt s j))
-      at lanes
+      Line (s .speedCount) (startOf M D b) (lowestOf M D b) (slowestIn M D s (firstOf M D b))
+      (λ j. laneOf M D (firstOf M D b) (speedAt s j)) at lanes
 
   -- the sheet keeps its ranges
   in-range : Ranged s

@@ -53,7 +53,8 @@ returns : tie.Need-returns Inv-loop μ-loop
 returns c =
     let l = c .before .before in
     let measured = l .before .before .before .before .pre .0 .measured in
-    blocks-whole (value-local width) (omega (arith, l .loop .inv .0, c .if1 .left, measured .blocks-is)) (measured .after-is) (l .loop .inv .1)
+    blocks-whole (value-local width) (omega (arith, l .loop .inv .0, c .if1 .left, measured .blocks-is)) (measured .after-is)
+    (l .loop .inv .1)
 
 pub fill-spec : {M : Type 1} → statement M
 fill-spec =

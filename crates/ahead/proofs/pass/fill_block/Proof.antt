@@ -159,8 +159,8 @@ loop-again c =
       l .inv .1,
       omega (arith, l .inv .0, within t),
       risen-more _ (l .steps) (l .inv .3) (ap (λ (x : ℕ). most - x - l .steps) (l .inv .0)),
-      block-more (value-local width) (block-low (start .pre .0) (start .pre .1)) (stepped (start .args .sizes) (start .args .block) (l .steps))
-          (omega arith) (within t .steps-high) (omega arith) (omega arith) (omega (arith, l .inv .1))
+      block-more (value-local width) (block-low (start .pre .0) (start .pre .1))
+          (stepped (start .args .sizes) (start .args .block) (l .steps)) (omega arith) (within t .steps-high) (omega arith) (omega arith) (omega (arith, l .inv .1))
           (c .before .before .before .before .sum-at .ensures) (l .inv .4) (c .before .before .store .ensures),
     )
 
@@ -171,8 +171,9 @@ returns : tie.Need-returns Inv-loop μ-loop
 returns c =
     let l = c .before .before .loop in
     let start = begun (c .before .before) in
-    let a = start .args in
-    let all : suc (pred (a .sizes .bound) * a .sizes .largest) ≡ lowestOf (a .sizes .largest) (pred (a .sizes .bound)) (a .block) + l .steps =
+    let M = start .args .sizes .largest in
+    let d = pred (start .args .sizes .bound) in
+    let all : suc (d * M) ≡ lowestOf M d (start .args .block) + l .steps =
     omega (arith, l .inv .0, l .inv .2, c .if1 .left, most-is (start .pre .0)) in
     rw all (l .inv .4)
 

@@ -24,9 +24,9 @@ there : (c : tie.After-shared-slice-known5) →
     getD (a .lanes .now) (at .line-at .result + 3 + a .place) 0 + c .before .above .result < a .sizes .after
 there c =
     let at = c .before .before .before .before .before .before .before .before in
-    let start = started at in
-    found-low (start .pre .0) (start .pre .1) (start .pre .2) (start .pre .3) (omega (arith, c .before .before .before .before .if1 .left))
-    (at .line-at .ensures) (c .before .before .larger .ensures) (c .before .above .ensures)
+    let pre = started at .pre in
+    found-low (pre .0) (pre .1) (pre .2) (pre .3) (c .before .before .before .before .if1 .left) (at .line-at .ensures)
+    (c .before .before .larger .ensures) (c .before .above .ensures)
 
 line-at-requires : tie.Need-line-at-requires
 line-at-requires c κs = line-asked (c .before .before .pre .0) (c .before .before .pre .1 .block-low)
@@ -58,9 +58,8 @@ none-requires c κs = search needs
 
 returns : tie.Need-returns
 returns c =
-    let start = started (c .before .before .before .before .before) in
-    c .none .ensures ∙
-    sym (cost-past (start .pre .0) (start .pre .1) (start .pre .2) (start .pre .3) (omega (arith, c .before .if1 .taken)))
+    let pre = started (c .before .before .before .before .before) .pre in
+    c .none .ensures ∙ sym (cost-past (pre .0) (pre .1) (pre .2) (pre .3) (c .before .if1 .taken))
 
 add-larger : tie.Need-add-larger
 add-larger c = omega (arith, line (c .before .before .before .before))
@@ -116,18 +115,18 @@ add-requires : tie.Need-add-requires
 add-requires c κs =
     let known = c .before .before in
     let at = known .before .before .before .before .before .before .before .before in
-    let start = started at in
-    cost-fits (start .pre .0) (start .pre .1) (start .pre .2) (start .pre .3) (omega (arith, known .before .before .before .before .if1 .left))
-    (at .line-at .ensures) (known .before .before .larger .ensures) (known .before .above .ensures) (c .before .load .ensures)
+    let pre = started at .pre in
+    cost-fits (pre .0) (pre .1) (pre .2) (pre .3) (known .before .before .before .before .if1 .left) (at .line-at .ensures)
+    (known .before .before .larger .ensures) (known .before .above .ensures) (c .before .load .ensures)
 
 returns-2 : tie.Need-returns-2
 returns-2 c =
     let known = c .before .before .before in
     let at = known .before .before .before .before .before .before .before .before in
-    let start = started at in
+    let pre = started at .pre in
     c .add .ensures ∙
-    cost-there (start .pre .0) (start .pre .1) (start .pre .2) (start .pre .3) (omega (arith, known .before .before .before .before .if1 .left))
-    (at .line-at .ensures) (known .before .before .larger .ensures) (known .before .above .ensures) (c .before .before .load .ensures)
+    cost-there (pre .0) (pre .1) (pre .2) (pre .3) (known .before .before .before .before .if1 .left) (at .line-at .ensures)
+    (known .before .before .larger .ensures) (known .before .above .ensures) (c .before .before .load .ensures)
 
 pub cost-spec : {M : Type 1} → statement M
 cost-spec =

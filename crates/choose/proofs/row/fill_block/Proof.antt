@@ -52,7 +52,9 @@ mul-end : tie.Need-mul-end Inv-loop μ-loop
 mul-end c = omega (arith, most-total (c .before .before .before .before .before .before .pre .0 .measured))
 
 line-at-requires : tie.Need-line-at-requires Inv-loop μ-loop
-line-at-requires c κs = line-asked (c .before .before .before .before .before .before .pre .0) (c .before .before .before .before .before .before .pre .1)
+line-at-requires c κs =
+    let start = c .before .before .before .before .before .before in
+    line-asked (start .pre .0) (start .pre .1)
 
 add-last : tie.Need-add-last Inv-loop μ-loop
 add-last c = omega (arith, line c)
