@@ -69,9 +69,6 @@ module _ {width : Width} {s : View} {sizes : Sizes} {lanes : List ℕ} {next : �
       (omega (arith, most-fewer M D low, mul-le-mul-right M low), most-total (given .measured))
 
   module _ {b : ℕ} (block : b < sizes .blocks) where
-    abbrev first : Queue
-    first = firstAfter M D b
-
     pub block-low : b < queueCount M (pred (pred D))
     block-low = omega (arith, given .measured .blocks-is)
 
@@ -87,7 +84,7 @@ module _ {width : Width} {s : View} {sizes : Sizes} {lanes : List ℕ} {next : �
     line-there = line-found (given .table .lines) block-low
 
     -- the last total of the block's first queue
-    first-last : total first D ≡ lowestOf M (pred D) b
+    first-last : total (firstAfter M D b) D ≡ lowestOf M (pred D) b
     first-last =
         let v = firstOf M (pred D) b in
         let is = first-of M (pred D) b block-low in

@@ -8,12 +8,12 @@ use mathlib.Core.Option.{Option, some}
 use native.Mathlib.Nat.{zero-add, le-refl}
 use native.Mathlib.Omega.{arith}
 use borrow.Author.Tests.{leb-true}
-use lib.Dec.{T, leb}
+use lib.Dec.{leb}
 use lib.ListN.{length}
-use Rattle.process.specs.Recursion.{plus, times, only, worth}
+use Rattle.process.specs.Recursion.{only, worth}
 use Rattle.process.proofs.Value.{UptoOr, plus-upto}
 use Rattle.model.specs.View.{View, speedAt, energyAt}
-use Rattle.model.specs.Queue.{Queue, total, bearable, run}
+use Rattle.model.specs.Queue.{Queue, total, run}
 use Rattle.model.specs.Refusal.{fieldsRefusal}
 use Rattle.model.proofs.Queues.{bearable-at, listed-bearable}
 use Rattle.queues.specs.Blocks.{queueWith}
@@ -50,11 +50,6 @@ cost-upto g most upto scale w speed energy =
 
 module _ (width : Width) (s : View) {sizes : Sizes} (m : Measured sizes) (g : Queue → Option ℕ) {ahead : List ℕ}
     (row : RowAfter width (sizes .largest) (sizes .bound) g 0 ahead) where
-  listed : (n : ℕ) → n < sizes .queues →
-      let w = queueWith (sizes .largest) (sizes .bound) n in
-      (length w ≡ sizes .bound) × T (bearable (sizes .largest) w)
-  listed n h = listed-bearable (sizes .largest) (sizes .bound) n (omega (arith, m .queues-is))
-
   -- what a speed costs by the buffer is what it costs by the function
   costs-told : (scale : Option ℕ) (n : ℕ) → n < sizes .queues → (j : ℕ) →
       let w = queueWith (sizes .largest) (sizes .bound) n in
@@ -62,10 +57,10 @@ module _ (width : Width) (s : View) {sizes : Sizes} (m : Measured sizes) (g : Qu
   unfolding costBy
   costs-told scale n h j =
       let w = queueWith (sizes .largest) (sizes .bound) n in
+      let (long, holds) = listed-bearable (sizes .largest) (sizes .bound) n (omega (arith, m .queues-is)) in
       only-same (leb (total w 1) (speedAt s j))
-      (λ e. ap (λ (r : Option ℕ). plus r (times (energyAt s j) scale))
-      (after-says width (sizes .largest) (sizes .bound) g 0 ahead row w (speedAt s j) (m .bound-low) (listed n h .0)
-      (λ u l. bearable-at (sizes .largest) w (listed n h .1) u l .0) (leb-true (total w 1) (speedAt s j) e)))
+      (λ e. rw (after-says width (sizes .largest) (sizes .bound) g 0 ahead row w (speedAt s j) (m .bound-low) long
+      (λ u l. bearable-at (sizes .largest) w holds u l .0) (leb-true (total w 1) (speedAt s j) e)))
 
   -- so is the least
   least-told : (scale : Option ℕ) (n : ℕ) → n < sizes .queues →

@@ -60,11 +60,6 @@ module _ (speed : ℕ → ℕ) (cost : ℕ → Option ℕ) where
   unfolding leastTo
   least-more j e d so-far more = rw (add-one, ← e, ← d) (more (leastTo speed cost j) so-far)
 
-  -- all
-  pub least-whole : (j n : ℕ) {best : ℕ} {q : Option ℕ} → j ≡ n → IsChoice (leastTo speed cost j) best q →
-      IsChoice (leastTo speed cost n) best q
-  least-whole j n e i = rw (← e) i
-
   -- as the code keeps it, the least has a speed that fits a byte where every speed does
   pub least-small : (n : ℕ) → ((j : ℕ) → j < n → speed j ≤ 255) → byteOf (leastTo speed cost n) ≤ 255
   unfolding leastTo

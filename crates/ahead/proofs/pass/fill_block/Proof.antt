@@ -160,8 +160,8 @@ loop-again c =
       omega (arith, l .inv .0, within t),
       risen-more _ (l .steps) (l .inv .3) (ap (λ (x : ℕ). most - x - l .steps) (l .inv .0)),
       block-more (value-local width) (block-low (start .pre .0) (start .pre .1))
-          (stepped (start .args .sizes) (start .args .block) (l .steps)) (omega arith) (within t .steps-high) (omega arith) (omega arith) (omega (arith, l .inv .1))
-          (c .before .before .before .before .sum-at .ensures) (l .inv .4) (c .before .before .store .ensures),
+          (stepped (start .args .sizes) (start .args .block) (l .steps)) (omega arith) (within t .steps-high) (omega arith) (omega arith)
+          (omega (arith, l .inv .1)) (c .before .before .before .before .sum-at .ensures) (l .inv .4) (c .before .before .store .ensures),
     )
 
 same-length : tie.Need-same-length Inv-loop μ-loop

@@ -1,13 +1,14 @@
 -- `choose` meets its contract. The loop's invariant: the least so far is the least over the speeds passed, and the cost of those before the
 -- first that leads on is none.
 use Prim.Native.Nat.{_+_, _-_, _≤_}
+use mathlib.Core.Path.{_≡_}
 use native.Mathlib.Omega.{arith}
 use Rattle.model.specs.View.{viewOf, speedAt}
 use Rattle.queues.specs.Blocks.{queueWith, firstOf, numberIn}
 use Rattle.value.specs.Narrow.{width, valueOf}
 use Rattle.speed_lanes.specs.Lanes.{slowestIn}
 use Rattle.choose.specs.Choice.{costAt, leastTo, IsChoice}
-use Rattle.choose.proofs.Choices.{least-begun, least-more, least-whole}
+use Rattle.choose.proofs.Choices.{least-begun, least-more}
 use Rattle.choose.proofs.Passing.{LineAt, columns-room, line-asked, line-there, slowest-few, slower-none}
 use Rattle.choose.proofs.least.choose.Statement.{statement}
 use Rattle.choose.proofs.least.choose.Tie as tie
@@ -101,10 +102,9 @@ loop-again c =
 
 returns : tie.Need-returns Inv-loop μ-loop
 returns c =
-    let l = c .before .before in
-    let sheet = begun l .args .sheet in
-    least-whole (speedAt (viewOf sheet)) _ (l .loop .place) (sheet .«speed_count») (omega (arith, l .loop .inv .1, c .if1 .left))
-    (l .loop .inv .2)
+    let l = c .before .before .loop in
+    let all : l .place ≡ begun (c .before .before) .args .sheet .«speed_count» = omega (arith, l .inv .1, c .if1 .left) in
+    rw all at (l .inv .2)
 
 pub choose-spec : {M : Type 1} → statement M
 choose-spec =
