@@ -33,7 +33,7 @@ use Rattle.entry_lanes.proofs.Lanes.{lane-says, steps-each, steps-past}
 use Rattle.ahead.specs.Pass.{Given, Within, Stepped, sumLeft, stepped, riseOf}
 use Rattle.ahead.proofs.Adding.{sum-more, sum-none}
 
--- less what an entry has lifted, what a lane has risen to is the number of a queue
+-- less what an entry has lifted, what a lane has risen to is one of so many numbers of queues
 pub record Lifted (queues risen lifted : ℕ) : Type 0 where
   pub lifted-small : lifted ≤ 48 * 255
   pub lifted-low : lifted ≤ risen
@@ -69,6 +69,7 @@ module _ {width : Width} {s : View} {sizes : Sizes} {lanes : List ℕ} {next : �
       (omega (arith, most-fewer M D low, mul-le-mul-right M low), most-total (given .measured))
 
   module _ {b : ℕ} (block : b < sizes .blocks) where
+    -- it is a block of the queues after a slot
     pub block-low : b < queueCount M (pred (pred D))
     block-low = omega (arith, given .measured .blocks-is)
 
@@ -76,10 +77,11 @@ module _ {width : Width} {s : View} {sizes : Sizes} {lanes : List ℕ} {next : �
     pub lowest-high : lowestOf M (pred D) b ≤ pred D * M
     lowest-high = lowest-upto M (pred D) b block-low
 
-    -- what is asked for where its line is looked for, and what stands in it
+    -- what is asked for where its line is looked for
     pub line-asked : (32 ≤ 32) × (s .jobCount ≤ 32) × (b ≤ 65535)
     line-asked = (omega arith, in-range .jobs-high, omega (arith, blocks-few (given .measured)))
 
+    -- its line is there
     pub line-there : {at : ℕ} → at ≡ lineAt 32 (s .jobCount) b → LineAt b at
     line-there = line-found (given .table .lines) block-low
 
@@ -127,7 +129,7 @@ module _ {width : Width} {s : View} {sizes : Sizes} {lanes : List ℕ} {next : �
         sum-none s (valueInRow width M values next) v (s .jobCount) (found .0) (found .1)
         (none-in-row width M values next (joined s v (found .0)) (lane (found .0) .ends (found .2)))
 
-    -- the sum so far, and one entry more
+    -- the sum so far and one entry more, as the code adds them, are the next sum, which does not exceed the limit of a value
     pub sum-on : {j : ℕ} {sum here : Option ℕ} → j < s .jobCount → sum ≡ sumLeft width s sizes next values (stepped sizes b k) j →
         here ≡ valueInRow width M values next (joined s v j) →
         let more = plus sum (times (getD lanes j 0) here) in
@@ -136,7 +138,7 @@ module _ {width : Width} {s : View} {sizes : Sizes} {lanes : List ℕ} {next : �
         let same = sum-more s (valueInRow width M values next) v j e (given .table .columns .firsts j h) d in
         (same, rw same (given .fits (stepped sizes b k) (j + 1) number-low (omega arith)))
 
-  -- elsewhere each arrival leads to a bearable queue, and what is read in the table tells its number
+  -- elsewhere each arrival leads to a bearable queue, and what the code reads in the table tells its number
   module _ {b k far : ℕ} (at : Stepped s sizes b k far) {j : ℕ} (h : j < s .jobCount) {line : ℕ}
       (e : line ≡ lineAt 32 (s .jobCount) b) where
     abbrev w : Queue
@@ -154,6 +156,7 @@ module _ {width : Width} {s : View} {sizes : Sizes} {lanes : List ℕ} {next : �
         let lift = ap (λ (x : ℕ). k * x) (given .table .columns .seconds j h) in
         (found .0, omega (arith, found .1, lift, line-there (at .within .block-low) e .lane-is j h, at .far-is))
 
+    -- that number is one of a queue
     pub lane-lifted : Lifted (sizes .queues) risen lifted
     lane-lifted =
         record {

@@ -61,7 +61,7 @@ module _ {width : Width} {s : View} {sizes : Sizes} {scale : Option ℕ} {lanes 
   most-before : (D - 1) * M ≡ pred D * M
   most-before = ap (λ (d : ℕ). d * M) (one-fewer D)
 
-  -- and a speed, a place of a lane's end
+  -- with a speed, the last total at which its lane ends, it is small
   pub end-small : {j : ℕ} → j < s .speedCount → (D - 1) * M + getD lanes j 0 ≤ 56
   end-small {j} h =
       let fewer : D - 1 ≤ D = omega arith in
@@ -80,9 +80,11 @@ module _ {width : Width} {s : View} {sizes : Sizes} {scale : Option ℕ} {lanes 
     abbrev first : Queue
     first = firstOf M D b
 
+    -- it is a block of the queues
     pub block-low : b < queueCount M (pred D)
     block-low = omega (arith, given .measured .after-is)
 
+    -- its first queue
     first-is : (length first ≡ D) × T (bearable M first) × (total first D ≡ lowestOf M D b)
     first-is = first-queue M D b (given .measured .bound-low) block-low
 
@@ -90,10 +92,11 @@ module _ {width : Width} {s : View} {sizes : Sizes} {scale : Option ℕ} {lanes 
     pub lowest-high : lowestOf M D b ≤ D * M
     lowest-high = omega (arith, first-is .2, bearable-upto M first (first-is .1) D (omega (arith, first-is .0)))
 
-    -- what is asked for where its line is looked for, and what stands in it
+    -- what is asked for where its line is looked for
     pub line-asked : (9 ≤ 32) × (s .speedCount ≤ 32) × (b ≤ 65535)
     line-asked = (omega arith, omega (arith, in-range .speeds-high), omega (arith, after-room (given .measured)))
 
+    -- its line is there
     pub line-there : {at : ℕ} → at ≡ lineAt 9 (s .speedCount) b → LineAt b at
     line-there = line-found (given .table .lines) block-low
 
@@ -155,7 +158,7 @@ module _ {width : Width} {s : View} {sizes : Sizes} {scale : Option ℕ} {lanes 
           cost-none width M D ahead scale w (speedAt s j) (energyAt s j)
           (lane .ends (omega (arith, placed .1, most-before, given .table .columns .firsts j h)))
 
-      -- before it what the buffer has where the lane leads, as the code finds it, and the scaled energy
+      -- before it the lane leads to a place of the buffer, found as the code finds it
       module _ (before : x ≤ (D - 1) * M + getD lanes j 0) {at from on : ℕ} (e : at ≡ lineAt 9 (s .speedCount) b)
           (larger : from ≡ max (getD lanes j 0) (getD lanes (at + 1) 0)) (above : on ≡ x - from) where
         abbrev found : ℕ
@@ -169,6 +172,7 @@ module _ {width : Width} {s : View} {sizes : Sizes} {scale : Option ℕ} {lanes 
             let begins : from ≡ max (speedAt s j) (lowestOf M D b) = cc (larger, speed, line .lowest-is) in
             (g .0, omega (arith, g .1, line .lane-is j h, placed .1, above, begins))
 
+        -- the buffer has that place
         pub found-low : found < sizes .after
         found-low =
             let shorter : length (afterOf D w (speedAt s j)) ≡ pred D =
@@ -180,12 +184,14 @@ module _ {width : Width} {s : View} {sizes : Sizes} {scale : Option ℕ} {lanes 
               given .measured .after-is,
             )
 
+        -- what stands there and the scaled energy are what the speed costs
         pub cost-there : {r : Option ℕ} → r ≡ valueIn width ahead found →
             plus r (times (getD lanes (9 + j) 0) scale) ≡ costAt width M D s ahead scale w j
         cost-there load =
             rw (load, given .table .columns .seconds j h, ← goes .1)
             (sym (cost-some width M D ahead scale w (speedAt s j) (energyAt s j) (goes .0)))
 
+        -- which does not exceed the limit of a value
         pub cost-fits : {r : Option ℕ} → r ≡ valueIn width ahead found → Fits width (plus r (times (getD lanes (9 + j) 0) scale))
         cost-fits load = subst (Fits width) (sym (cost-there load)) (given .fits _ j number-low h)
 
