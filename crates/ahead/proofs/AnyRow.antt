@@ -1,6 +1,6 @@
 -- The first pass over a row of any function from queues to values: its sums are those of the function, a bound of the function bounds them,
 -- and where there is an entry they make a row after a slot. The caller of the pass says which function it is.
-use Prim.Native.Nat.{ℕ, pred, _+_, _*_, _≤_, _<_}
+use Prim.Native.Nat.{ℕ, _+_, _*_, _≤_, _<_}
 use mathlib.Core.Path.{_≡_, sym, ap, _∙_, subst}
 use mathlib.Core.Bool.{false}
 use mathlib.Core.List.{List}
@@ -15,11 +15,9 @@ use Rattle.process.proofs.Value.{UptoOr, uptoOr-le, sum-upto}
 use Rattle.model.specs.View.{View, weightAt, sizeAt, deadlineAt, W}
 use Rattle.model.specs.Queue.{Queue, NeverFalls, bearable}
 use Rattle.model.specs.Refusal.{fieldsRefusal}
-use Rattle.model.proofs.Queues.{length-arrive, listed-bearable}
 use Rattle.model.proofs.Refusal.{W-is}
 use Rattle.model.proofs.Tests.{fails-false}
-use Rattle.queues.specs.Blocks.{queueWith}
-use Rattle.slot.proofs.Slots.{length-twice, arrive-not-bearable}
+use Rattle.slot.proofs.Slots.{arrive-not-bearable}
 use Rattle.buffers.specs.Fills.{Fills}
 use Rattle.model.specs.Width.{Width, valueIn}
 use Rattle.value.proofs.Decoding.{bound-fits}
@@ -32,6 +30,7 @@ use Rattle.entry_lanes.specs.Lanes.{joined, EntryTable}
 use Rattle.ahead.specs.Pass.{Given, sumLeft}
 use Rattle.ahead.specs.Sums.{sumTo}
 use Rattle.ahead.proofs.Adding.{sum-same, sum-none}
+use Rattle.ahead.proofs.Passing.{joined-long}
 
 module _ (s : View) (f : Queue → Option ℕ) where
   -- where the function is nowhere above a bound, no sum over some first entries is above the bound times W
@@ -61,18 +60,12 @@ module _ (s : View) (f : Queue → Option ℕ) where
 
 module _ (width : Width) (s : View) {sizes : Sizes} (m : Measured sizes) (f : Queue → Option ℕ) {next : ℕ} {values : List ℕ}
     (row : RowOf width (sizes .largest) (sizes .bound) f next values) where
-  after-long : (i : ℕ) → i < sizes .after → length (afterWith (sizes .largest) (sizes .bound) i) ≡ sizes .bound
-  after-long i h =
-      length-twice (queueWith (sizes .largest) (pred (sizes .bound)) i) ∙
-      omega (arith, listed-bearable (sizes .largest) (pred (sizes .bound)) i (omega (arith, m .after-is)) .0, m .bound-low)
-
   -- what the pass adds up is what the function gives
   sums-told : (i n : ℕ) → i < sizes .after →
       sumLeft width s sizes next values i n ≡ sumTo s f (afterWith (sizes .largest) (sizes .bound) i) n
   sums-told i n h =
       sum-same s _ f (afterWith (sizes .largest) (sizes .bound) i) n
-      (λ j. row-says width (sizes .largest) (sizes .bound) f next values row _
-      (length-arrive _ (sizeAt s j) (deadlineAt s j) ∙ after-long i h))
+      (λ j. row-says width (sizes .largest) (sizes .bound) f next values row _ (joined-long m s h j))
 
   -- what it is given, where the function's bound times W passes no limit of a value
   pub given-for : {lanes : List ℕ} (most : ℕ) → fieldsRefusal s ≡ 0 → EntryTable (sizes .largest) (sizes .bound) s lanes →

@@ -23,6 +23,7 @@ use Rattle.model.specs.Width.{Width, valueIn}
 use Rattle.value.specs.Values.{Fits}
 use Rattle.rows.specs.Rows.{valueInRow, afterWith}
 use Rattle.rows.specs.Tables.{lineAt}
+use Rattle.sheets.specs.Sizes.{Measured}
 use Rattle.sheets.specs.declared.sizes.Sizes.{Sizes}
 use Rattle.rows.proofs.Room.{blocks-few, most-total}
 use Rattle.rows.proofs.Rows.{none-in-row, read-in-row}
@@ -32,6 +33,14 @@ use Rattle.entry_lanes.proofs.Firsts.{first-of, lowest-upto, most-fewer}
 use Rattle.entry_lanes.proofs.Lanes.{lane-says, steps-each, steps-past}
 use Rattle.ahead.specs.Pass.{Given, Within, Stepped, sumLeft, stepped, riseOf}
 use Rattle.ahead.proofs.Adding.{sum-more, sum-none}
+
+-- a queue after a slot, with the arrival of an entry, has D positions
+pub joined-long : {sizes : Sizes} → Measured sizes → (s : View) {i : ℕ} → i < sizes .after → (j : ℕ) →
+    length (joined s (afterWith (sizes .largest) (sizes .bound) i) j) ≡ sizes .bound
+joined-long {sizes} m s {i} h j =
+    let v = queueWith (sizes .largest) (pred (sizes .bound)) i in
+    let fewer = listed-bearable (sizes .largest) (pred (sizes .bound)) i (omega (arith, m .after-is)) .0 in
+    length-arrive (lastTwice v) (sizeAt s j) (deadlineAt s j) ∙ length-twice v ∙ omega (arith, fewer, m .bound-low)
 
 -- less what an entry has lifted, what a lane has risen to is one of so many numbers of queues
 pub record Lifted (queues risen lifted : ℕ) : Type 0 where
@@ -177,10 +186,7 @@ module _ {width : Width} {s : View} {sizes : Sizes} {lanes : List ℕ} {next : �
             go false = omega arith
 
         long : length w ≡ D
-        long =
-            length-arrive (afterWith M D (stepped sizes b k)) (sizeAt s j) (deadlineAt s j) ∙
-            length-twice (queueWith M (pred D) (stepped sizes b k)) ∙
-            omega (arith, listed-bearable M (pred D) (stepped sizes b k) (placed (at .within) .0 .within) .0, given .measured .bound-low)
+        long = joined-long (given .measured) s (number-low (at .within)) j
 
     -- at which the row has its value
     pub value-there : valueIn width values (next + (risen - lifted)) ≡ valueInRow width M values next w
