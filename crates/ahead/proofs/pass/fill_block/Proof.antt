@@ -81,19 +81,19 @@ mul-most : tie.Need-mul-most Inv-loop μ-loop
 mul-most c = omega (arith, most-is (c .before .before .before .before .before .before .pre .0))
 
 add-lowest : tie.Need-add-lowest Inv-loop μ-loop
-add-lowest c = omega (arith, line (c .before .before))
+add-lowest c = omega (arith, line (c .before .before) .room)
 
 mul-lowest : tie.Need-mul-lowest Inv-loop μ-loop
-mul-lowest c = omega (arith, line (c .before .before))
+mul-lowest c = omega (arith, line (c .before .before) .room)
 
 shared-slice-read-lowest : tie.Need-shared-slice-read-lowest Inv-loop μ-loop
-shared-slice-read-lowest c = omega (arith, line (c .before .before .before))
+shared-slice-read-lowest c = omega (arith, line (c .before .before .before) .room)
 
 mul-first : tie.Need-mul-first Inv-loop μ-loop
-mul-first c = omega (arith, line (c .before .before .before))
+mul-first c = omega (arith, line (c .before .before .before) .room)
 
 shared-slice-read-first : tie.Need-shared-slice-read-first Inv-loop μ-loop
-shared-slice-read-first c = omega (arith, line (c .before .before .before .before))
+shared-slice-read-first c = omega (arith, line (c .before .before .before .before) .room)
 
 cast-first : tie.Need-cast-first Inv-loop μ-loop
 cast-first c = omega (arith, c .shared-slice-known4 .given (c .before .before .before .before .line-at .result))

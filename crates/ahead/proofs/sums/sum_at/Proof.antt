@@ -17,13 +17,13 @@ line-at-requires : tie.Need-line-at-requires
 line-at-requires c κs = line-asked (c .before .before .pre .0) (c .before .before .pre .1 .block-low)
 
 add-if1 : tie.Need-add-if1
-add-if1 c = omega (arith, line c)
+add-if1 c = omega (arith, line c .room)
 
 mul-if1 : tie.Need-mul-if1
-mul-if1 c = omega (arith, line c)
+mul-if1 c = omega (arith, line c .room)
 
 shared-slice-read-if1 : tie.Need-shared-slice-read-if1
-shared-slice-read-if1 c = omega (arith, line (c .before))
+shared-slice-read-if1 c = omega (arith, line (c .before) .room)
 
 none-requires : tie.Need-none-requires
 none-requires c κs = search needs

@@ -28,16 +28,16 @@ line-at-requires : tie.Need-line-at-requires
 line-at-requires c κs = line-asked (c .before .before .pre .0) (c .before .before .pre .1 .within .block-low)
 
 add-on : tie.Need-add-on
-add-on c = omega (arith, line c)
+add-on c = omega (arith, line c .room)
 
 add-on-2 : tie.Need-add-on-2
-add-on-2 c = omega (arith, line c)
+add-on-2 c = omega (arith, line c .room)
 
 mul-on : tie.Need-mul-on
-mul-on c = omega (arith, line c)
+mul-on c = omega (arith, line c .room)
 
 shared-slice-read-on : tie.Need-shared-slice-read-on
-shared-slice-read-on c = omega (arith, line (c .before))
+shared-slice-read-on c = omega (arith, line (c .before) .room)
 
 add-on-3 : tie.Need-add-on-3
 add-on-3 c = omega (arith, told (c .before))

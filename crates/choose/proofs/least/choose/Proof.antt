@@ -43,13 +43,13 @@ line-at-requires : tie.Need-line-at-requires Inv-loop μ-loop
 line-at-requires c κs = line-asked (c .before .before .before .pre .0) (c .before .before .before .pre .1 .block-low)
 
 add-place : tie.Need-add-place Inv-loop μ-loop
-add-place c = omega (arith, line c)
+add-place c = omega (arith, line c .room)
 
 mul-place : tie.Need-mul-place Inv-loop μ-loop
-mul-place c = omega (arith, line c)
+mul-place c = omega (arith, line c .room)
 
 shared-slice-read-place : tie.Need-shared-slice-read-place Inv-loop μ-loop
-shared-slice-read-place c = omega (arith, line (c .before))
+shared-slice-read-place c = omega (arith, line (c .before) .room)
 
 cast-place : tie.Need-cast-place Inv-loop μ-loop
 cast-place c = omega (arith, c .shared-slice-known3 .given (c .before .line-at .result + 2))

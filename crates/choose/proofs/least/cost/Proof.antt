@@ -62,13 +62,13 @@ returns c =
     c .none .ensures ∙ sym (cost-past (pre .0) (pre .1) (pre .2) (pre .3) (c .before .if1 .taken))
 
 add-larger : tie.Need-add-larger
-add-larger c = omega (arith, line (c .before .before .before .before))
+add-larger c = omega (arith, line (c .before .before .before .before) .room)
 
 mul-larger : tie.Need-mul-larger
-mul-larger c = omega (arith, line (c .before .before .before .before))
+mul-larger c = omega (arith, line (c .before .before .before .before) .room)
 
 shared-slice-read-larger : tie.Need-shared-slice-read-larger
-shared-slice-read-larger c = omega (arith, line (c .before .before .before .before .before))
+shared-slice-read-larger c = omega (arith, line (c .before .before .before .before .before) .room)
 
 larger-requires : tie.Need-larger-requires
 larger-requires c κs = search needs
@@ -77,16 +77,16 @@ above-requires : tie.Need-above-requires
 above-requires c κs = search needs
 
 add-load : tie.Need-add-load
-add-load c = omega (arith, line (c .before .before .before .before .before .before .before))
+add-load c = omega (arith, line (c .before .before .before .before .before .before .before) .room)
 
 add-load-2 : tie.Need-add-load-2
-add-load-2 c = omega (arith, line (c .before .before .before .before .before .before .before))
+add-load-2 c = omega (arith, line (c .before .before .before .before .before .before .before) .room)
 
 mul-load : tie.Need-mul-load
-mul-load c = omega (arith, line (c .before .before .before .before .before .before .before))
+mul-load c = omega (arith, line (c .before .before .before .before .before .before .before) .room)
 
 shared-slice-read-load : tie.Need-shared-slice-read-load
-shared-slice-read-load c = omega (arith, line (c .before .before .before .before .before .before .before .before))
+shared-slice-read-load c = omega (arith, line (c .before .before .before .before .before .before .before .before) .room)
 
 cast-load : tie.Need-cast-load
 cast-load c = omega (arith, there c)

@@ -57,13 +57,13 @@ line-at-requires c κs =
     line-asked (start .pre .0) (start .pre .1)
 
 add-last : tie.Need-add-last Inv-loop μ-loop
-add-last c = omega (arith, line c)
+add-last c = omega (arith, line c .room)
 
 mul-last : tie.Need-mul-last Inv-loop μ-loop
-mul-last c = omega (arith, line c)
+mul-last c = omega (arith, line c .room)
 
 shared-slice-read-last : tie.Need-shared-slice-read-last Inv-loop μ-loop
-shared-slice-read-last c = omega (arith, line (c .before))
+shared-slice-read-last c = omega (arith, line (c .before) .room)
 
 loop-holds : tie.Need-loop-holds Inv-loop μ-loop
 loop-holds c =

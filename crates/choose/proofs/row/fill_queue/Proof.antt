@@ -23,28 +23,31 @@ number : (c : tie.After-line-at) →
     let a = started c .args in
     let found = getD (a .lanes .now) (c .line-at .result) 0 + (a .last - getD (a .lanes .now) (c .line-at .result + 1) 0) in
     (found ≡ numberIn (a .sizes .largest) (a .sizes .bound) (a .block) (a .last)) × (found < a .sizes .queues)
-number c = (omega (arith, line c), omega (arith, line c, number-low (started c .pre .0) (started c .pre .1)))
+number c = (
+    omega (arith, line c .number-is, line c .lowest-is),
+    omega (arith, line c .number-is, line c .lowest-is, number-low (started c .pre .0) (started c .pre .1)),
+)
 
 line-at-requires : tie.Need-line-at-requires
 line-at-requires c κs = line-asked (c .before .before .before .before .pre .0) (c .before .before .before .before .pre .1 .block-low)
 
 mul-number : tie.Need-mul-number
-mul-number c = omega (arith, line c)
+mul-number c = omega (arith, line c .room)
 
 shared-slice-read-number : tie.Need-shared-slice-read-number
-shared-slice-read-number c = omega (arith, line (c .before))
+shared-slice-read-number c = omega (arith, line (c .before) .room)
 
 cast-number : tie.Need-cast-number
 cast-number c = omega (arith, c .shared-slice-known3 .given (c .before .line-at .result))
 
 add-number : tie.Need-add-number
-add-number c = omega (arith, line (c .before))
+add-number c = omega (arith, line (c .before) .room)
 
 mul-number-2 : tie.Need-mul-number-2
-mul-number-2 c = omega (arith, line (c .before))
+mul-number-2 c = omega (arith, line (c .before) .room)
 
 shared-slice-read-number-2 : tie.Need-shared-slice-read-number-2
-shared-slice-read-number-2 c = omega (arith, line (c .before .before))
+shared-slice-read-number-2 c = omega (arith, line (c .before .before) .room)
 
 sub-number : tie.Need-sub-number
 sub-number c = omega (arith, line (c .before .before) .lowest-is, started (c .before .before) .pre .1 .last-low)
