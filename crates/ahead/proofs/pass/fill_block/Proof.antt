@@ -119,10 +119,10 @@ sum-at-requires : tie.Need-sum-at-requires Inv-loop μ-loop
 sum-at-requires c κs = (start c .pre .0, within c, turn c .loop .inv .3)
 
 cast-store : tie.Need-cast-store Inv-loop μ-loop
-cast-store c = omega (arith, high (c .before .before))
+cast-store c = omega (arith, high (c .before .before) .0)
 
 add-store : tie.Need-add-store Inv-loop μ-loop
-add-store c = omega (arith, turn (c .before .before) .loop .inv .1, high (c .before .before))
+add-store c = omega (arith, turn (c .before .before) .loop .inv .1, high (c .before .before) .0)
 
 store-requires : tie.Need-store-requires Inv-loop μ-loop
 store-requires c κs =
@@ -132,7 +132,7 @@ store-requires c κs =
     (omega (arith, start t .pre .2, l .inv .4 .same-length))
 
 add-far : tie.Need-add-far Inv-loop μ-loop
-add-far c = omega (arith, high (c .before .before .before .before .before))
+add-far c = omega (arith, high (c .before .before .before .before .before) .3)
 
 sub-far : tie.Need-sub-far Inv-loop μ-loop
 sub-far c = omega (arith, high (c .before .before .before .before .before))
@@ -144,10 +144,10 @@ add-far-2 : tie.Need-add-far-2 Inv-loop μ-loop
 add-far-2 c = omega (arith, high (c .before .before .before .before .before))
 
 add-steps : tie.Need-add-steps Inv-loop μ-loop
-add-steps c = omega (arith, high (c .before .before .before .before .before))
+add-steps c = omega (arith, high (c .before .before .before .before .before) .0)
 
 loop-less : tie.Need-loop-less Inv-loop μ-loop
-loop-less c = omega (arith, high (c .before .before .before .before .before))
+loop-less c = omega (arith, high (c .before .before .before .before .before) .1)
 
 loop-again : tie.Need-loop-again Inv-loop μ-loop
 loop-again c =
