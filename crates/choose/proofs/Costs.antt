@@ -23,13 +23,15 @@ module _ (width : Width) (M D : ℕ) (ahead : List ℕ) (scale : Option ℕ) (w 
   unfolding costBy
   cost-none e = go (leb (total w 1) speed) refl
     where
-      go : (b : Bool) → leb (total w 1) speed ≡ b → only b (plus (valueInRow width M ahead 0 (afterOf D w speed)) (times energy scale)) ≡ none
+      go : (b : Bool) → leb (total w 1) speed ≡ b →
+          only b (plus (valueInRow width M ahead 0 (afterOf D w speed)) (times energy scale)) ≡ none
       go true q = rw (none-in-row width M ahead 0 (afterOf D w speed) (rw q at e))
       go false q = refl
 
   -- else what the buffer has at the number of the queue after the slot, and the scaled energy
   pub cost-some : T (leadsOn M D w speed) →
-      costBy (aheadIn width M D ahead) scale w speed energy ≡ plus (valueIn width ahead (numberOf M (afterOf D w speed))) (times energy scale)
+      costBy (aheadIn width M D ahead) scale w speed energy ≡
+      plus (valueIn width ahead (numberOf M (afterOf D w speed))) (times energy scale)
   unfolding costBy
   cost-some t =
       let parts = leads-parts M D w speed t in

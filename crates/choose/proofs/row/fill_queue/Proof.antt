@@ -24,8 +24,8 @@ number : (c : tie.After-line-at) →
     let found = getD (a .lanes .now) (c .line-at .result) 0 + (a .last - getD (a .lanes .now) (c .line-at .result + 1) 0) in
     (found ≡ numberIn (a .sizes .largest) (a .sizes .bound) (a .block) (a .last)) × (found < a .sizes .queues)
 number c = (
-    omega (arith, line c .number-is, line c .lowest-is),
-    omega (arith, line c .number-is, line c .lowest-is, number-low (started c .pre .0) (started c .pre .1)),
+  omega (arith, line c .number-is, line c .lowest-is),
+  omega (arith, line c .number-is, line c .lowest-is, number-low (started c .pre .0) (started c .pre .1)),
 )
 
 line-at-requires : tie.Need-line-at-requires
