@@ -1,6 +1,6 @@
 -- The first pass over a row of any function from queues to values: its sums are those of the function, a bound of the function bounds them,
 -- and where there is an entry they make a row after a slot. The caller of the pass says which function it is.
-use Prim.Native.Nat.{ℕ, pred, _+_, _*_, _≤_, _<_}
+use Prim.Native.Nat.{ℕ, _+_, _*_, _≤_, _<_}
 use mathlib.Core.Path.{_≡_, sym, ap, _∙_, subst}
 use mathlib.Core.Bool.{false}
 use mathlib.Core.List.{List}
@@ -15,17 +15,14 @@ use Rattle.process.proofs.Value.{UptoOr, uptoOr-le, sum-upto}
 use Rattle.model.specs.View.{View, weightAt, sizeAt, deadlineAt, W}
 use Rattle.model.specs.Queue.{Queue, NeverFalls, bearable}
 use Rattle.model.specs.Refusal.{fieldsRefusal}
-use Rattle.model.proofs.Queues.{length-arrive, listed-bearable}
 use Rattle.model.proofs.Refusal.{W-is}
-use Rattle.model.proofs.Tests.{same-test}
-use Rattle.queues.specs.Blocks.{queueWith}
-use Rattle.slot.proofs.Slots.{length-twice, arrive-not-bearable}
+use Rattle.model.proofs.Tests.{fails-false}
+use Rattle.slot.proofs.Slots.{arrive-not-bearable}
 use Rattle.buffers.specs.Fills.{Fills}
 use Rattle.model.specs.Width.{Width, valueIn}
-use Rattle.value.specs.Values.{Fits}
 use Rattle.value.proofs.Decoding.{bound-fits}
 use Rattle.buffers.proofs.Filling.{fills-same}
-use Rattle.rows.specs.Rows.{valueInRow, afterWith, RowOf}
+use Rattle.rows.specs.Rows.{afterWith, RowOf}
 use Rattle.sheets.specs.Sizes.{Measured}
 use Rattle.sheets.specs.declared.sizes.Sizes.{Sizes}
 use Rattle.rows.proofs.Rows.{row-says}
@@ -33,6 +30,7 @@ use Rattle.entry_lanes.specs.Lanes.{joined, EntryTable}
 use Rattle.ahead.specs.Pass.{Given, sumLeft}
 use Rattle.ahead.specs.Sums.{sumTo}
 use Rattle.ahead.proofs.Adding.{sum-same, sum-none}
+use Rattle.ahead.proofs.Passing.{joined-long}
 
 module _ (s : View) (f : Queue → Option ℕ) where
   -- where the function is nowhere above a bound, no sum over some first entries is above the bound times W
@@ -55,27 +53,19 @@ module _ (s : View) (f : Queue → Option ℕ) where
   -- where it gives none of each queue that is not bearable, so do its sums: no arrival makes such a queue bearable
   pub sums-strict : (M : ℕ) → 1 ≤ s .jobCount → ((w : Queue) → bearable M w ≡ false → f w ≡ none) → (v : Queue) → NeverFalls v →
       bearable M v ≡ false → sumTo s f v (s .jobCount) ≡ none
-  sums-strict M jobs strict v rises e = sum-none s f v (s .jobCount) 0 jobs (strict (joined s v 0) still)
-    where
-      still : bearable M (joined s v 0) ≡ false
-      still =
-          same-test (bearable M (joined s v 0)) false
-          (λ t. subst T e (arrive-not-bearable M v (sizeAt s 0) (deadlineAt s 0) rises t)) (λ x. absurd x)
+  sums-strict M jobs strict v rises e =
+      sum-none s f v (s .jobCount) 0 jobs
+      (strict (joined s v 0)
+      (fails-false (bearable M (joined s v 0)) (λ t. subst T e (arrive-not-bearable M v (sizeAt s 0) (deadlineAt s 0) rises t))))
 
 module _ (width : Width) (s : View) {sizes : Sizes} (m : Measured sizes) (f : Queue → Option ℕ) {next : ℕ} {values : List ℕ}
     (row : RowOf width (sizes .largest) (sizes .bound) f next values) where
-  after-long : (i : ℕ) → i < sizes .after → length (afterWith (sizes .largest) (sizes .bound) i) ≡ sizes .bound
-  after-long i h =
-      length-twice (queueWith (sizes .largest) (pred (sizes .bound)) i) ∙
-      omega (arith, listed-bearable (sizes .largest) (pred (sizes .bound)) i (omega (arith, m .after-is)) .0, m .bound-low)
-
   -- what the pass adds up is what the function gives
-  sums-told : (i n : ℕ) → i < sizes .after → sumLeft width s sizes next values i n ≡ sumTo s f (afterWith (sizes .largest) (sizes .bound) i) n
+  sums-told : (i n : ℕ) → i < sizes .after →
+      sumLeft width s sizes next values i n ≡ sumTo s f (afterWith (sizes .largest) (sizes .bound) i) n
   sums-told i n h =
-      let v = afterWith (sizes .largest) (sizes .bound) i in
-      sum-same s (valueInRow width (sizes .largest) values next) f v n
-      (λ j. row-says width (sizes .largest) (sizes .bound) f next values row (joined s v j)
-      (length-arrive v (sizeAt s j) (deadlineAt s j) ∙ after-long i h))
+      sum-same s _ f (afterWith (sizes .largest) (sizes .bound) i) n
+      (λ j. row-says width (sizes .largest) (sizes .bound) f next values row _ (joined-long m s h j))
 
   -- what it is given, where the function's bound times W passes no limit of a value
   pub given-for : {lanes : List ℕ} (most : ℕ) → fieldsRefusal s ≡ 0 → EntryTable (sizes .largest) (sizes .bound) s lanes →
@@ -87,9 +77,8 @@ module _ (width : Width) (s : View) {sizes : Sizes} (m : Measured sizes) (f : Qu
         table = table;
         room = subst (λ (n : ℕ). (next + n) * width .places ≤ length values) (sym (m .queues-is)) (row .row .room);
         fits = λ i n h k.
-            subst (Fits width) (sym (sums-told i n h))
-            (bound-fits width (sumTo s f (afterWith (sizes .largest) (sizes .bound) i) n)
-            (sums-upto s f most upto (afterWith (sizes .largest) (sizes .bound) i) n k) low);
+            let v = afterWith (sizes .largest) (sizes .bound) i in
+            rw (sums-told i n h) (bound-fits width (sumTo s f v n) (sums-upto s f most upto v n k) low);
       }
 
   -- what it leaves: the sums of the function

@@ -1,39 +1,53 @@
 -- What the table and the row say so many steps on from the first queue of a block: the proofs of src/sums.rt and src/pass.rt stand on these
 -- laws, which hold at any width of a value.
 use Prim.Native.Nat.{ℕ, suc, pred, _+_, _-_, _*_, _≤_, _<_}
-use mathlib.Core.Path.{_≡_, sym, ap, _∙_, subst}
+use mathlib.Core.Path.{_≡_, ap, _∙_}
 use mathlib.Core.Bool.{Bool, true, false, cond}
 use mathlib.Core.List.{List}
 use mathlib.Core.Option.{Option, none}
-use native.Mathlib.Nat.{add-zero, mul-le-mul}
+use native.Mathlib.Nat.{mul-le-mul, mul-le-mul-right}
 use native.Mathlib.Omega.{arith}
 use lib.Dec.{T, leb}
 use lib.ListN.{length, getD}
-use Rattle.model.specs.View.{View, weightAt, sizeAt, deadlineAt}
+use Rattle.process.specs.Recursion.{plus, times}
+use Rattle.model.specs.View.{View, sizeAt, deadlineAt}
 use Rattle.model.specs.Queue.{Queue, total, bearable, queueCount, numberOf}
 use Rattle.model.proofs.Queues.{length-arrive, listed-bearable, number-below}
 use Rattle.model.proofs.Refusal.{Ranged, ranged}
 use Rattle.model.proofs.Tests.{holds-true}
-use Rattle.queues.specs.Blocks.{queueWith, firstOf, startOf, lowestOf, lastOf, InBlock, InBlocks, risen}
+use Rattle.queues.specs.Blocks.{queueWith, firstOf, startOf, lowestOf, lastOf, InBlock}
 use Rattle.slot.specs.Slot.{lastTwice}
 use Rattle.queues.proofs.Blocks.{block-place, risen-upto}
 use Rattle.slot.proofs.Slots.{length-twice, last-twice}
-use Rattle.buffers.specs.Fills.{Fills, FillsWhere}
 use Rattle.model.specs.Width.{Width, valueIn}
-use Rattle.buffers.proofs.Filling.{value-local}
+use Rattle.value.specs.Values.{Fits}
 use Rattle.rows.specs.Rows.{valueInRow, afterWith}
-use Rattle.sheets.specs.Sizes.{Measured}
 use Rattle.rows.specs.Tables.{lineAt}
+use Rattle.sheets.specs.Sizes.{Measured}
 use Rattle.sheets.specs.declared.sizes.Sizes.{Sizes}
-use Rattle.rows.proofs.Blocks.{block-none, block-more, blocks-none, blocks-more, blocks-whole}
-use Rattle.rows.proofs.Room.{most-total}
+use Rattle.rows.proofs.Room.{blocks-few, most-total}
 use Rattle.rows.proofs.Rows.{none-in-row, read-in-row}
-use Rattle.rows.proofs.Tables.{line-within}
+use Rattle.rows.proofs.Tables.{Line, line-found}
 use Rattle.entry_lanes.specs.Lanes.{firstAfter, joined, liftOf, stepsTo, laneOf, Lane}
 use Rattle.entry_lanes.proofs.Firsts.{first-of, lowest-upto, most-fewer}
 use Rattle.entry_lanes.proofs.Lanes.{lane-says, steps-each, steps-past}
-use Rattle.ahead.specs.Pass.{Given, Within, sumLeft, stepped}
-use Rattle.ahead.proofs.Adding.{sum-none}
+use Rattle.ahead.specs.Pass.{Given, Within, Stepped, sumLeft, stepped, riseOf}
+use Rattle.ahead.proofs.Adding.{sum-more, sum-none}
+
+-- a queue after a slot, with the arrival of an entry, has D positions
+pub joined-long : {sizes : Sizes} → Measured sizes → (s : View) {i : ℕ} → i < sizes .after → (j : ℕ) →
+    length (joined s (afterWith (sizes .largest) (sizes .bound) i) j) ≡ sizes .bound
+joined-long {sizes} m s {i} h j =
+    let v = queueWith (sizes .largest) (pred (sizes .bound)) i in
+    let fewer = listed-bearable (sizes .largest) (pred (sizes .bound)) i (omega (arith, m .after-is)) .0 in
+    length-arrive (lastTwice v) (sizeAt s j) (deadlineAt s j) ∙ length-twice v ∙ omega (arith, fewer, m .bound-low)
+
+-- less what an entry has lifted, what a lane has risen to is one of so many numbers of queues
+pub record Lifted (queues risen lifted : ℕ) : Type 0 where
+  pub lifted-small : lifted ≤ 48 * 255
+  pub lifted-low : lifted ≤ risen
+  pub number-low : risen - lifted < queues
+  pub queues-high : queues ≤ 65535
 
 module _ {width : Width} {s : View} {sizes : Sizes} {lanes : List ℕ} {next : ℕ} {values : List ℕ}
     (given : Given width s sizes lanes next values) where
@@ -43,40 +57,28 @@ module _ {width : Width} {s : View} {sizes : Sizes} {lanes : List ℕ} {next : �
   abbrev D : ℕ
   D = sizes .bound
 
+  -- the line of block b, at a place of the table
+  abbrev pub LineAt : ℕ → ℕ → Type 0
+  LineAt b at =
+      Line (s .jobCount) (startOf M (pred D) b) (lowestOf M (pred D) b) (stepsTo M D s (firstAfter M D b) (s .jobCount))
+      (λ j. laneOf M (joined s (firstAfter M D b) j)) at lanes
+
   -- the sheet keeps its ranges
-  pub in-range : Ranged s
+  in-range : Ranged s
   in-range = ranged s (given .fields)
 
   -- the columns are within the table
-  pub columns-room : 64 ≤ length lanes
-  columns-room = omega (arith, given .table .lines .room)
+  pub columns-room : 32 + s .jobCount ≤ length lanes
+  columns-room = omega (arith, given .table .lines .room, in-range .jobs-high)
 
-  -- D times M and, below it, (D-1) times M as the code works it out
-  pub most-before : D * M - M ≡ pred D * M
-  most-before = most-fewer M D (given .measured .bound-low)
+  -- D times M, and one less of M
+  pub most-is : (pred D * M + M ≡ D * M) × (D * M ≤ 48)
+  most-is =
+      let low = given .measured .bound-low in
+      (omega (arith, most-fewer M D low, mul-le-mul-right M low), most-total (given .measured))
 
-  pub most-before-small : pred D * M ≤ 48
-  most-before-small = omega (arith, most-before, most-total (given .measured))
-
-  -- the weight and the lift of an entry
-  module _ (j : ℕ) (h : j < s .jobCount) where
-    pub weight-read : getD lanes j 0 ≡ weightAt s j
-    weight-read = given .table .columns .firsts j h
-
-    pub lift-read : getD lanes (32 + j) 0 ≡ liftOf D (sizeAt s j) (deadlineAt s j)
-    lift-read = given .table .columns .seconds j h
-
-    pub lift-small : liftOf D (sizeAt s j) (deadlineAt s j) ≤ 255
-    lift-small = go (leb (deadlineAt s j) (pred D))
-      where
-        go : (b : Bool) → cond b (sizeAt s j) 0 ≤ 255
-        go true = in-range .size-high j h
-        go false = omega arith
-
-  module _ (b : ℕ) (block : b < sizes .blocks) where
-    abbrev first : Queue
-    first = firstAfter M D b
-
+  module _ {b : ℕ} (block : b < sizes .blocks) where
+    -- it is a block of the queues after a slot
     pub block-low : b < queueCount M (pred (pred D))
     block-low = omega (arith, given .measured .blocks-is)
 
@@ -84,133 +86,110 @@ module _ {width : Width} {s : View} {sizes : Sizes} {lanes : List ℕ} {next : �
     pub lowest-high : lowestOf M (pred D) b ≤ pred D * M
     lowest-high = lowest-upto M (pred D) b block-low
 
-    -- its line is within the table
-    pub line-room : lineAt 32 (s .jobCount) b + (s .jobCount + 3) ≤ length lanes
-    line-room = line-within 32 (s .jobCount) b (queueCount M (pred (pred D))) block-low (given .table .lines .room)
+    -- what is asked for where its line is looked for
+    pub line-asked : (32 ≤ 32) × (s .jobCount ≤ 32) × (b ≤ 65535)
+    line-asked = (omega arith, in-range .jobs-high, omega (arith, blocks-few (given .measured)))
 
-    -- what stands in it
-
-    pub line-start : getD lanes (lineAt 32 (s .jobCount) b) 0 ≡ startOf M (pred D) b
-    line-start =
-        ap (λ (p : ℕ). getD lanes p 0) (sym (add-zero (lineAt 32 (s .jobCount) b))) ∙
-        given .table .lines .right b 0 block-low (omega arith)
-
-    pub line-lowest : getD lanes (lineAt 32 (s .jobCount) b + 1) 0 ≡ lowestOf M (pred D) b
-    line-lowest = given .table .lines .right b 1 block-low (omega arith)
-
-    pub line-steps : getD lanes (lineAt 32 (s .jobCount) b + 2) 0 ≡ stepsTo M D s first (s .jobCount)
-    line-steps = given .table .lines .right b 2 block-low (omega arith)
-
-    pub line-lane : (j : ℕ) → j < s .jobCount → getD lanes (lineAt 32 (s .jobCount) b + 3 + j) 0 ≡ laneOf M (joined s first j)
-    line-lane j h =
-        let place : lineAt 32 (s .jobCount) b + 3 + j ≡ lineAt 32 (s .jobCount) b + suc (suc (suc j)) = omega arith in
-        ap (λ (p : ℕ). getD lanes p 0) place ∙ given .table .lines .right b (suc (suc (suc j))) block-low (omega arith)
+    -- its line is there
+    pub line-there : {at : ℕ} → at ≡ lineAt 32 (s .jobCount) b → LineAt b at
+    line-there = line-found (given .table .lines) block-low
 
     -- the last total of the block's first queue
-    first-last : total first D ≡ lowestOf M (pred D) b
+    first-last : total (firstAfter M D b) D ≡ lowestOf M (pred D) b
     first-last =
         let v = firstOf M (pred D) b in
         let is = first-of M (pred D) b block-low in
         let more : D ≡ suc (length v) = omega (arith, is .0, given .measured .bound-low) in
         ap (total (lastTwice v)) more ∙ last-twice v ∙ ap (total v) (is .0) ∙ is .2
 
-    module _ (k : ℕ) (inside : Within sizes b k) where
-      abbrev v : Queue
-      v = afterWith M D (stepped sizes b k)
+  module _ {b k : ℕ} (inside : Within sizes b k) where
+    abbrev v : Queue
+    v = afterWith M D (stepped sizes b k)
 
-      placed : InBlock M (pred D) b (suc (lowestOf M (pred D) b + k)) (stepped sizes b k) ×
-          (lastOf M (pred D) (stepped sizes b k) ≡ lowestOf M (pred D) b + k)
-      placed =
-          block-place M (pred D) b (lowestOf M (pred D) b + k) (stepped sizes b k) block-low (omega arith) (inside .steps-high)
-          (omega arith)
+    placed : InBlock M (pred D) b (suc (lowestOf M (pred D) b + k)) (stepped sizes b k) ×
+        (lastOf M (pred D) (stepped sizes b k) ≡ lowestOf M (pred D) b + k)
+    placed =
+        block-place M (pred D) b (lowestOf M (pred D) b + k) (stepped sizes b k) (block-low (inside .block-low)) (omega arith)
+        (inside .steps-high) (omega arith)
 
-      -- the queue's number is one of a queue after a slot
-      pub number-low : stepped sizes b k < sizes .after
-      number-low = omega (arith, placed .0 .within, given .measured .after-is)
+    -- the queue's number is one of a queue after a slot
+    pub number-low : stepped sizes b k < sizes .after
+    number-low = omega (arith, placed .0 .within, given .measured .after-is)
 
-      lane : (j : ℕ) →
-          Lane M D (joined s first j) (joined s v j) (liftOf D (sizeAt s j) (deadlineAt s j)) (lowestOf M (pred D) b) k
-      lane j =
-          lane-says M D b k (sizeAt s j) (deadlineAt s j) (given .measured .bound-low) block-low (inside .steps-high)
+    -- a lane has not risen far
+    pub risen-small : riseOf sizes b k ≤ 48 * 49
+    risen-small =
+        let rise = D * M + 1 - lowestOf M (pred D) b in
+        let few : k ≤ 48 = omega (arith, inside .steps-high, most-is) in
+        let low : rise ≤ 49 = omega (arith, most-is) in
+        omega (arith, risen-upto rise k, mul-le-mul few low)
 
-      -- where some arrival leads to a queue that is not bearable, what is ahead is none
-      pub sum-past : stepsTo M D s first (s .jobCount) ≤ k → sumLeft width s sizes next values (stepped sizes b k) (s .jobCount) ≡ none
-      sum-past h =
-          let found = steps-past M D s first (s .jobCount) k h (omega (arith, first-last, inside .steps-high)) in
-          sum-none s (valueInRow width M values next) v (s .jobCount) (found .0) (found .1)
-          (none-in-row width M values next (joined s v (found .0)) (lane (found .0) .ends (found .2)))
+    lane : (j : ℕ) →
+        Lane M D (joined s (firstAfter M D b) j) (joined s v j) (liftOf D (sizeAt s j) (deadlineAt s j)) (lowestOf M (pred D) b) k
+    lane j =
+        lane-says M D b k (sizeAt s j) (deadlineAt s j) (given .measured .bound-low) (block-low (inside .block-low)) (inside .steps-high)
 
-      -- elsewhere each arrival leads to a bearable queue
-      module _ (before : k < stepsTo M D s first (s .jobCount)) (j : ℕ) (h : j < s .jobCount) where
-        goes : T (bearable M (joined s v j)) ×
-            (numberOf M (joined s v j) + k * liftOf D (sizeAt s j) (deadlineAt s j) ≡
-            laneOf M (joined s first j) + risen (D * M + 1 - lowestOf M (pred D) b) k)
-        goes = lane j .goes (steps-each M D s first (s .jobCount) k j before h)
+    -- where some arrival leads to a queue that is not bearable, what is ahead is none
+    pub sum-past : stepsTo M D s (firstAfter M D b) (s .jobCount) ≤ k →
+        sumLeft width s sizes next values (stepped sizes b k) (s .jobCount) ≡ none
+    sum-past h =
+        let found =
+        steps-past M D s (firstAfter M D b) (s .jobCount) k h (omega (arith, first-last (inside .block-low), inside .steps-high)) in
+        sum-none s (valueInRow width M values next) v (s .jobCount) (found .0) (found .1)
+        (none-in-row width M values next (joined s v (found .0)) (lane (found .0) .ends (found .2)))
 
-        -- whose number the lane tells
-        pub number-told : numberOf M (joined s v j) + k * liftOf D (sizeAt s j) (deadlineAt s j) ≡
-            laneOf M (joined s first j) + risen (D * M + 1 - lowestOf M (pred D) b) k
-        number-told = goes .1
+    -- the sum so far and one entry more, as the code adds them, are the next sum, which does not exceed the limit of a value
+    pub sum-on : {j : ℕ} {sum here : Option ℕ} → j < s .jobCount → sum ≡ sumLeft width s sizes next values (stepped sizes b k) j →
+        here ≡ valueInRow width M values next (joined s v j) →
+        let more = plus sum (times (getD lanes j 0) here) in
+        (more ≡ sumLeft width s sizes next values (stepped sizes b k) (j + 1)) × Fits width more
+    sum-on {j} h e d =
+        let same = sum-more s (valueInRow width M values next) v j e (given .table .columns .firsts j h) d in
+        (same, rw same (given .fits (stepped sizes b k) (j + 1) number-low (omega arith)))
 
-        pub number-joined : numberOf M (joined s v j) < sizes .queues
-        number-joined =
-            let short = listed-bearable M (pred D) (stepped sizes b k) (placed .0 .within) .0 in
-            let long : length (joined s v j) ≡ D =
-            length-arrive v (sizeAt s j) (deadlineAt s j) ∙ length-twice (queueWith M (pred D) (stepped sizes b k)) ∙
-            omega (arith, short, given .measured .bound-low) in
-            omega (arith, number-below M (joined s v j) long (goes .0), given .measured .queues-is)
+  -- elsewhere each arrival leads to a bearable queue, and what the code reads in the table tells its number
+  module _ {b k far : ℕ} (at : Stepped s sizes b k far) {j : ℕ} (h : j < s .jobCount) {line : ℕ}
+      (e : line ≡ lineAt 32 (s .jobCount) b) where
+    abbrev w : Queue
+    w = joined s (afterWith M D (stepped sizes b k)) j
 
-        -- and of which the row says what stands at that number
-        pub value-joined : valueInRow width M values next (joined s v j) ≡ valueIn width values (next + numberOf M (joined s v j))
-        value-joined = read-in-row width M values next (joined s v j) (holds-true (bearable M (joined s v j)) (goes .0))
+    abbrev risen : ℕ
+    risen = getD lanes (line + 3 + j) 0 + far
 
-      -- a lane has not risen far
-      pub risen-small : risen (D * M + 1 - lowestOf M (pred D) b) k ≤ 48 * 49
-      risen-small =
-          let few : k ≤ 48 = omega (arith, inside .steps-high, most-before-small) in
-          let rise : D * M + 1 - lowestOf M (pred D) b ≤ 49 = omega (arith, most-total (given .measured)) in
-          omega (arith, risen-upto (D * M + 1 - lowestOf M (pred D) b) k, mul-le-mul few rise)
+    abbrev lifted : ℕ
+    lifted = k * getD lanes (32 + j) 0
 
--- what is ahead, filled block by block
+    goes : T (bearable M w) × (numberOf M w + lifted ≡ risen)
+    goes =
+        let found = lane (at .within) j .goes (steps-each M D s (firstAfter M D b) (s .jobCount) k j (at .before-end) h) in
+        let lift = ap (λ (x : ℕ). k * x) (given .table .columns .seconds j h) in
+        (found .0, omega (arith, found .1, lift, line-there (at .within .block-low) e .lane-is j h, at .far-is))
 
-module _ (width : Width) (sizes : Sizes) (f : ℕ → Option ℕ) where
-  abbrev Done : (ℕ → Type 0) → List ℕ → List ℕ → Type 0
-  Done done ahead₀ ahead = FillsWhere (width .places) (valueIn width) f 0 done ahead₀ ahead
+    -- that number is one of a queue
+    pub lane-lifted : Lifted (sizes .queues) risen lifted
+    lane-lifted =
+        record {
+          lifted-small = mul-le-mul few small;
+          lifted-low = omega (arith, goes .1);
+          number-low = omega (arith, goes .1, number-below M w long (goes .0), given .measured .queues-is);
+          queues-high = given .measured .queues-high;
+        }
+      where
+        few : k ≤ 48
+        few = omega (arith, at .within .steps-high, most-is)
 
-  module _ (b : ℕ) (h : b < queueCount (sizes .largest) (pred (pred (sizes .bound)))) where
-    -- in a block nothing is filled below its lowest last total
-    pub ahead-none : (x : ℕ) (l : List ℕ) → x ≡ lowestOf (sizes .largest) (pred (sizes .bound)) b →
-        Done (InBlock (sizes .largest) (pred (sizes .bound)) b x) l l
-    ahead-none x l e =
-        subst (λ (y : ℕ). Done (InBlock (sizes .largest) (pred (sizes .bound)) b y) l l) (sym e)
-        (block-none (width .places) (valueIn width) (value-local width) (sizes .largest) (pred (sizes .bound)) f 0 b h l)
+        small : getD lanes (32 + j) 0 ≤ 255
+        small = omega (arith, given .table .columns .seconds j h, go (leb (deadlineAt s j) (pred D)))
+          where
+            go : (b : Bool) → cond b (sizeAt s j) 0 ≤ 255
+            go true = in-range .size-high j h
+            go false = omega arith
 
-    -- one queue more
-    pub ahead-more : (k n : ℕ) {r : Option ℕ} {l₀ l₁ l₂ : List ℕ} → Within sizes b k → n ≡ stepped sizes b k → r ≡ f (stepped sizes b k) →
-        Done (InBlock (sizes .largest) (pred (sizes .bound)) b (lowestOf (sizes .largest) (pred (sizes .bound)) b + k)) l₀ l₁ →
-        Fills (width .places) (valueIn width) (λ i. r) n 1 l₁ l₂ →
-        Done (InBlock (sizes .largest) (pred (sizes .bound)) b (lowestOf (sizes .largest) (pred (sizes .bound)) b + (k + 1))) l₀ l₂
-    ahead-more k n {l₀ = l₀} {l₂ = l₂} inside e same so-far stored =
-        let lowest = lowestOf (sizes .largest) (pred (sizes .bound)) b in
-        subst (λ (y : ℕ). Done (InBlock (sizes .largest) (pred (sizes .bound)) b y) l₀ l₂) (omega arith)
-        (block-more (width .places) (valueIn width) (value-local width) (sizes .largest) (pred (sizes .bound)) f 0 b h (lowest + k)
-        (stepped sizes b k) (omega arith) (inside .steps-high) (omega arith) (omega arith) same so-far stored)
+        long : length w ≡ D
+        long = joined-long (given .measured) s (number-low (at .within)) j
 
-    -- one block more
-    pub ahead-block : (x : ℕ) {l₀ l₁ l₂ : List ℕ} → pred (sizes .bound) * sizes .largest < x →
-        Done (InBlocks (sizes .largest) (pred (sizes .bound)) b) l₀ l₁ → Done (InBlock (sizes .largest) (pred (sizes .bound)) b x) l₁ l₂ →
-        Done (InBlocks (sizes .largest) (pred (sizes .bound)) (b + 1)) l₀ l₂
-    ahead-block x high so-far block =
-        blocks-more (width .places) (valueIn width) (value-local width) (sizes .largest) (pred (sizes .bound)) f 0 b x h high so-far block
-
-  -- in no block anything is filled
-  pub ahead-begun : (l : List ℕ) → Done (InBlocks (sizes .largest) (pred (sizes .bound)) 0) l l
-  ahead-begun l = blocks-none (width .places) (valueIn width) (value-local width) (sizes .largest) (pred (sizes .bound)) f 0 l
-
-  -- after the last block all is
-  pub ahead-whole : Measured sizes → (b : ℕ) {l₀ l : List ℕ} → b ≡ sizes .blocks →
-      Done (InBlocks (sizes .largest) (pred (sizes .bound)) b) l₀ l →
-      Fills (width .places) (valueIn width) f 0 (sizes .after) l₀ l
-  ahead-whole m b all filled =
-      blocks-whole (width .places) (valueIn width) (value-local width) (sizes .largest) (pred (sizes .bound)) f 0 b (sizes .after)
-      (all ∙ m .blocks-is) (m .after-is) filled
+    -- at which the row has its value
+    pub value-there : valueIn width values (next + (risen - lifted)) ≡ valueInRow width M values next w
+    value-there =
+        let number : numberOf M w ≡ risen - lifted = omega (arith, goes .1) in
+        rw (read-in-row width M values next w (holds-true (bearable M w) (goes .0)), number)

@@ -8,18 +8,17 @@ use mathlib.Core.Option.{Option, some}
 use native.Mathlib.Nat.{zero-add, le-refl}
 use native.Mathlib.Omega.{arith}
 use borrow.Author.Tests.{leb-true}
-use lib.Dec.{T, leb}
+use lib.Dec.{leb}
 use lib.ListN.{length}
-use Rattle.process.specs.Recursion.{plus, times, only, worth}
+use Rattle.process.specs.Recursion.{only, worth}
 use Rattle.process.proofs.Value.{UptoOr, plus-upto}
 use Rattle.model.specs.View.{View, speedAt, energyAt}
-use Rattle.model.specs.Queue.{Queue, total, bearable, run}
+use Rattle.model.specs.Queue.{Queue, total, run}
 use Rattle.model.specs.Refusal.{fieldsRefusal}
 use Rattle.model.proofs.Queues.{bearable-at, listed-bearable}
 use Rattle.queues.specs.Blocks.{queueWith}
 use Rattle.buffers.specs.Fills.{Fills, numberAt}
 use Rattle.model.specs.Width.{Width, valueIn}
-use Rattle.value.specs.Values.{Fits}
 use Rattle.value.proofs.Decoding.{bound-fits}
 use Rattle.buffers.proofs.Filling.{fills-same}
 use Rattle.rows.specs.Rows.{RowAfter}
@@ -46,16 +45,11 @@ cost-upto : (g : Queue → Option ℕ) (most : ℕ) → ((v : Queue) → UptoOr 
     UptoOr (Unit {0}) (costBy g (some scale) w speed energy) (most + energy * scale)
 unfolding costBy
 cost-upto g most upto scale w speed energy =
-    only-upto (leb (total w 1) speed) (plus (g (run w speed)) (times energy (some scale))) (most + energy * scale)
+    only-upto (leb (total w 1) speed) _ (most + energy * scale)
     (plus-upto (Unit {0}) (g (run w speed)) (some (energy * scale)) most (energy * scale) (upto (run w speed)) (le-refl (energy * scale)))
 
 module _ (width : Width) (s : View) {sizes : Sizes} (m : Measured sizes) (g : Queue → Option ℕ) {ahead : List ℕ}
     (row : RowAfter width (sizes .largest) (sizes .bound) g 0 ahead) where
-  listed : (n : ℕ) → n < sizes .queues →
-      let w = queueWith (sizes .largest) (sizes .bound) n in
-      (length w ≡ sizes .bound) × T (bearable (sizes .largest) w)
-  listed n h = listed-bearable (sizes .largest) (sizes .bound) n (omega (arith, m .queues-is))
-
   -- what a speed costs by the buffer is what it costs by the function
   costs-told : (scale : Option ℕ) (n : ℕ) → n < sizes .queues → (j : ℕ) →
       let w = queueWith (sizes .largest) (sizes .bound) n in
@@ -63,10 +57,10 @@ module _ (width : Width) (s : View) {sizes : Sizes} (m : Measured sizes) (g : Qu
   unfolding costBy
   costs-told scale n h j =
       let w = queueWith (sizes .largest) (sizes .bound) n in
+      let (long, holds) = listed-bearable (sizes .largest) (sizes .bound) n (omega (arith, m .queues-is)) in
       only-same (leb (total w 1) (speedAt s j))
-      (λ e. ap (λ (r : Option ℕ). plus r (times (energyAt s j) scale))
-      (after-says width (sizes .largest) (sizes .bound) g 0 ahead row w (speedAt s j) (m .bound-low) (listed n h .0)
-      (λ u l. bearable-at (sizes .largest) w (listed n h .1) u l .0) (leb-true (total w 1) (speedAt s j) e)))
+      (λ e. rw (after-says width (sizes .largest) (sizes .bound) g 0 ahead row w (speedAt s j) (m .bound-low) long
+      (λ u l. bearable-at (sizes .largest) w holds u l .0) (leb-true (total w 1) (speedAt s j) e)))
 
   -- so is the least
   least-told : (scale : Option ℕ) (n : ℕ) → n < sizes .queues →
@@ -87,10 +81,9 @@ module _ (width : Width) (s : View) {sizes : Sizes} (m : Measured sizes) (g : Qu
             subst (λ (n : ℕ). n * width .places ≤ length ahead) (zero-add _ ∙ sym (m .after-is)) (row .row .room);
         fits = λ n j h k.
             let w = queueWith (sizes .largest) (sizes .bound) n in
-            subst (Fits width)
-            (sym (costs-told scale n h j ∙ ap (λ (q : Option ℕ). costBy g q w (speedAt s j) (energyAt s j)) e))
-            (bound-fits width (costBy g (some unit) w (speedAt s j) (energyAt s j)) (cost-upto g most upto unit w (speedAt s j) (energyAt s j))
-            (low j k));
+            rw (costs-told scale n h j, e)
+            (bound-fits width (costBy g (some unit) w (speedAt s j) (energyAt s j))
+            (cost-upto g most upto unit w (speedAt s j) (energyAt s j)) (low j k));
       }
 
   -- what it leaves: what the least by the function is worth, and its speed

@@ -20,8 +20,7 @@ better-taken before r speed none e c i = absurd (subst T (sym e) tt)
 better-taken before r speed (some v) e nothing i = record { speed-is = refl; value-is = refl }
 better-taken before r speed (some v) e (chosen b u) i =
     let less : ltb v u ≡ true = ap (lessThan (some v)) (sym (i .value-is)) ∙ e in
-    subst (λ (x : Bool). IsChoice (cond x (chosen speed v) (chosen b u)) speed (some v)) (sym (cheaper-is v u ∙ less))
-    (record { speed-is = refl; value-is = refl })
+    rw (cheaper-is v u ∙ less) (record { speed-is = refl; value-is = refl })
 
 -- any other leaves the least as it is
 pub better-left : (before : ℕ) (r : Option ℕ) (speed : ℕ) (cost : Option ℕ) → lessThan cost r ≡ false →
@@ -30,7 +29,7 @@ better-left before r speed none e c i = i
 better-left before r speed (some v) e nothing i = absurd (subst T (ap (lessThan (some v)) (sym (i .value-is)) ∙ e) tt)
 better-left before r speed (some v) e (chosen b u) i =
     let less : ltb v u ≡ false = ap (lessThan (some v)) (sym (i .value-is)) ∙ e in
-    subst (λ (x : Bool). IsChoice (cond x (chosen speed v) (chosen b u)) before r) (sym (cheaper-is v u ∙ less)) i
+    rw (cheaper-is v u ∙ less) i
 
 -- several
 
@@ -49,28 +48,17 @@ module _ (speed : ℕ → ℕ) (cost : ℕ → Option ℕ) where
   nothing-least : (k : ℕ) → ((j : ℕ) → j < k → cost j ≡ none) → leastTo speed cost k ≡ nothing
   unfolding leastTo
   nothing-least zero dear = refl
-  nothing-least (suc k) dear =
-      ap (λ (c : Choice). better c (speed k) (cost k)) (nothing-least k (λ j h. dear j (omega arith))) ∙
-      ap (better nothing (speed k)) (dear k (omega arith))
+  nothing-least (suc k) dear = rw (nothing-least k (λ j h. dear j (omega arith)), dear k (omega arith))
 
   -- so that the search may begin behind them
   pub least-begun : (k : ℕ) {r : Option ℕ} → ((j : ℕ) → j < k → cost j ≡ none) → r ≡ none → IsChoice (leastTo speed cost k) 255 r
-  least-begun k {r} dear e =
-      subst (λ (c : Choice). IsChoice c 255 r) (sym (nothing-least k dear)) (record { speed-is = refl; value-is = e })
+  least-begun k dear e = rw (nothing-least k dear) (record { speed-is = refl; value-is = e })
 
   -- one more
-  pub least-more : (j : ℕ) {before a best : ℕ} {r here q : Option ℕ} → a ≡ speed j → here ≡ cost j → IsChoice (leastTo speed cost j) before r →
-      IsBetter before r a here best q → IsChoice (leastTo speed cost (j + 1)) best q
+  pub least-more : (j : ℕ) {before a best : ℕ} {r here q : Option ℕ} → a ≡ speed j → here ≡ cost j →
+      IsChoice (leastTo speed cost j) before r → IsBetter before r a here best q → IsChoice (leastTo speed cost (j + 1)) best q
   unfolding leastTo
-  least-more j {a = a} {best = best} {q = q} e d so-far more =
-      rw add-one
-      (subst (λ (x : ℕ). IsChoice (better (leastTo speed cost j) x (cost j)) best q) e
-      (subst (λ (p : Option ℕ). IsChoice (better (leastTo speed cost j) a p) best q) d (more (leastTo speed cost j) so-far)))
-
-  -- all
-  pub least-whole : (j n : ℕ) {best : ℕ} {q : Option ℕ} → j ≡ n → IsChoice (leastTo speed cost j) best q →
-      IsChoice (leastTo speed cost n) best q
-  least-whole j n {best} {q} e i = subst (λ (k : ℕ). IsChoice (leastTo speed cost k) best q) e i
+  least-more j e d so-far more = rw (add-one, ← e, ← d) (more (leastTo speed cost j) so-far)
 
   -- as the code keeps it, the least has a speed that fits a byte where every speed does
   pub least-small : (n : ℕ) → ((j : ℕ) → j < n → speed j ≤ 255) → byteOf (leastTo speed cost n) ≤ 255
@@ -94,5 +82,4 @@ pub least-same : (speed : ℕ → ℕ) (cost cost′ : ℕ → Option ℕ) (n : 
 unfolding leastTo
 least-same speed cost cost′ zero same = refl
 least-same speed cost cost′ (suc n) same =
-    ap (λ (c : Choice). better c (speed n) (cost n)) (least-same speed cost cost′ n (λ j h. same j (omega arith))) ∙
-    ap (better (leastTo speed cost′ n) (speed n)) (same n (omega arith))
+    rw (least-same speed cost cost′ n (λ j h. same j (omega arith)), same n (omega arith))

@@ -1,7 +1,7 @@
 -- What a speed costs in a queue (specs/Choice.antt), by whether it leads on.
 use Prim.Native.Nat.{ℕ}
-use mathlib.Core.Path.{_≡_, refl, sym, ap, _∙_}
-use mathlib.Core.Bool.{Bool, true, false, _&&_}
+use mathlib.Core.Path.{_≡_, refl}
+use mathlib.Core.Bool.{Bool, true, false}
 use mathlib.Core.List.{List}
 use mathlib.Core.Option.{Option, none}
 use native.Mathlib.Nat.{zero-add}
@@ -23,20 +23,17 @@ module _ (width : Width) (M D : ℕ) (ahead : List ℕ) (scale : Option ℕ) (w 
   unfolding costBy
   cost-none e = go (leb (total w 1) speed) refl
     where
-      go : (b : Bool) → leb (total w 1) speed ≡ b → only b (plus (valueInRow width M ahead 0 (afterOf D w speed)) (times energy scale)) ≡ none
-      go true q =
-          ap (λ (r : Option ℕ). plus r (times energy scale))
-          (none-in-row width M ahead 0 (afterOf D w speed) (ap (λ (b : Bool). b && bearable M (afterOf D w speed)) (sym q) ∙ e))
+      go : (b : Bool) → leb (total w 1) speed ≡ b →
+          only b (plus (valueInRow width M ahead 0 (afterOf D w speed)) (times energy scale)) ≡ none
+      go true q = rw (none-in-row width M ahead 0 (afterOf D w speed) (rw q at e))
       go false q = refl
 
   -- else what the buffer has at the number of the queue after the slot, and the scaled energy
   pub cost-some : T (leadsOn M D w speed) →
-      costBy (aheadIn width M D ahead) scale w speed energy ≡ plus (valueIn width ahead (numberOf M (afterOf D w speed))) (times energy scale)
+      costBy (aheadIn width M D ahead) scale w speed energy ≡
+      plus (valueIn width ahead (numberOf M (afterOf D w speed))) (times energy scale)
   unfolding costBy
   cost-some t =
       let parts = leads-parts M D w speed t in
-      ap (λ (b : Bool). only b (plus (valueInRow width M ahead 0 (afterOf D w speed)) (times energy scale)))
-      (le-leb (total w 1) speed (parts .0)) ∙
-      ap (λ (r : Option ℕ). plus r (times energy scale))
-      (read-in-row width M ahead 0 (afterOf D w speed) (holds-true (bearable M (afterOf D w speed)) (parts .1)) ∙
-      ap (valueIn width ahead) (zero-add (numberOf M (afterOf D w speed))))
+      let bearable-after = holds-true (bearable M (afterOf D w speed)) (parts .1) in
+      rw (le-leb (total w 1) speed (parts .0), read-in-row width M ahead 0 (afterOf D w speed) bearable-after, zero-add)

@@ -11,7 +11,7 @@ use lib.ListN.{length, getD, set, length-set}
 use lib.Seq.{getD-set-same, getD-set-other}
 use Rattle.buffers.specs.Fills.{Fills, numberAt}
 use Rattle.buffers.proofs.Filling.{number-local, fills-none, fills-then, fills-whole, number-more}
-use Rattle.rows.specs.Tables.{lineOf, lineAt, Columns, LinesPut, Table}
+use Rattle.rows.specs.Tables.{lineOf, lineAt, Columns, LinesPut, Table, Lines}
 
 -- the columns
 
@@ -120,3 +120,27 @@ table-whole {c} few e columns put =
           };
       lines = put-all e put .lines;
     }
+
+-- the line of a block, as a pass finds it at place `at`: its three numbers and its lanes
+pub record Line (n number lowest third : ℕ) (lane : ℕ → ℕ) (at : ℕ) (l : List ℕ) : Type 0 where
+  pub room : at + (n + 3) ≤ length l
+  pub number-is : getD l at 0 ≡ number
+  pub lowest-is : getD l (at + 1) 0 ≡ lowest
+  pub third-is : getD l (at + 2) 0 ≡ third
+  pub lane-is : (j : ℕ) → j < n → getD l (at + 3 + j) 0 ≡ lane j
+
+-- every block of the table has one
+pub line-found : {c n blocks b at : ℕ} {line : ℕ → ℕ → ℕ} {l : List ℕ} → Lines c n blocks line l → b < blocks → at ≡ lineAt c n b →
+    Line n (line b 0) (line b 1) (line b 2) (λ j. line b (suc (suc (suc j)))) at l
+line-found {c} {n} {blocks} {b} {at} {line} {l} lines low e =
+    record {
+      room = omega (arith, line-within c n b blocks low (lines .room));
+      number-is = stands 0 (omega arith) (omega arith);
+      lowest-is = stands 1 refl (omega arith);
+      third-is = stands 2 refl (omega arith);
+      lane-is = λ j h. stands (suc (suc (suc j))) (omega arith) (omega arith);
+    }
+  where
+    stands : (i : ℕ) {p : ℕ} → p ≡ at + i → i < n + 3 → getD l p 0 ≡ line b i
+    stands i here h =
+        ap (λ (p : ℕ). getD l p 0) (here ∙ ap (λ (k : ℕ). k + i) e) ∙ lines .right b i low h

@@ -1,6 +1,5 @@
 -- `fill` meets its contract. The loop's invariant: what is ahead of the queues of the blocks passed is filled.
 use Prim.Native.Nat.{pred, _-_, _≤_}
-use native.Mathlib.Nat.{le-refl}
 use native.Mathlib.Omega.{arith}
 use Rattle.model.specs.View.{viewOf}
 use Rattle.queues.specs.Blocks.{InBlocks}
@@ -8,7 +7,9 @@ use Rattle.buffers.specs.Fills.{FillsWhere}
 use Rattle.value.specs.Narrow.{width}
 use Rattle.model.specs.Width.{valueIn}
 use Rattle.ahead.specs.Pass.{sumLeft}
-use Rattle.ahead.proofs.Passing.{block-low, ahead-begun, ahead-block, ahead-whole}
+use Rattle.buffers.proofs.Filling.{value-local}
+use Rattle.rows.proofs.Blocks.{blocks-none, blocks-more, blocks-whole}
+use Rattle.ahead.proofs.Passing.{block-low}
 use Rattle.ahead.proofs.pass.fill.Statement.{statement}
 use Rattle.ahead.proofs.pass.fill.Tie as tie
 
@@ -22,9 +23,7 @@ abbrev μ-loop : tie.MeasureT-loop
 μ-loop sheet sizes lanes next values ahead₀ block₀ ahead block = sizes .blocks - block
 
 loop-holds : tie.Need-loop-holds Inv-loop μ-loop
-loop-holds c =
-    let a = c .before .before .before .args in
-    (omega arith, ahead-begun width (a .sizes) _ (a .ahead .now))
+loop-holds c = (omega arith, blocks-none (value-local width))
 
 fill-block-requires : tie.Need-fill-block-requires Inv-loop μ-loop
 fill-block-requires c κs =
@@ -42,11 +41,9 @@ loop-again : tie.Need-loop-again Inv-loop μ-loop
 loop-again c =
     let l = c .before .before .before .before .before .before in
     let start = l .before .before .before .before in
-    let a = start .args in
     let taken = c .before .before .before .before .if1 .taken in (
       omega (arith, taken),
-      ahead-block width (a .sizes) _ (l .loop .block) (block-low (start .pre .0) (l .loop .block) taken) _ (le-refl _) (l .loop .inv .1)
-          (c .before .before .fill-block .ensures),
+      blocks-more (value-local width) (block-low (start .pre .0) taken) (l .loop .inv .1) (c .before .before .fill-block .ensures),
     )
 
 same-length : tie.Need-same-length Inv-loop μ-loop
@@ -55,8 +52,8 @@ same-length c = c .before .before .loop .inv .1 .same-length
 returns : tie.Need-returns Inv-loop μ-loop
 returns c =
     let l = c .before .before in
-    let start = l .before .before .before .before in
-    ahead-whole width (start .args .sizes) _ (start .pre .0 .measured) (l .loop .block) (omega (arith, l .loop .inv .0, c .if1 .left))
+    let measured = l .before .before .before .before .pre .0 .measured in
+    blocks-whole (value-local width) (omega (arith, l .loop .inv .0, c .if1 .left, measured .blocks-is)) (measured .after-is)
     (l .loop .inv .1)
 
 pub fill-spec : {M : Type 1} → statement M

@@ -1,21 +1,21 @@
 -- `fill_block` meets its contract. The loop's invariant: the queues of the block's first so many steps are filled, and a lane has risen as
 -- far as it does in as many steps.
 use Prim.Native.Nat.{ℕ, suc, pred, _+_, _-_, _*_, _≤_, _<_}
-use mathlib.Core.Path.{_≡_, ap, _∙_, subst}
-use native.Mathlib.Nat.{add-zero, mul-le-mul-right}
+use mathlib.Core.Path.{_≡_, ap}
 use native.Mathlib.Omega.{arith}
-use lib.ListN.{length, getD}
+use lib.ListN.{getD}
 use Rattle.model.specs.View.{viewOf}
 use Rattle.queues.specs.Blocks.{startOf, lowestOf, InBlock}
 use Rattle.queues.proofs.Blocks.{risen-none, risen-more}
 use Rattle.buffers.specs.Fills.{FillsWhere}
 use Rattle.value.specs.Narrow.{width}
 use Rattle.model.specs.Width.{valueIn}
-use Rattle.buffers.proofs.Filling.{fewer-fit}
-use Rattle.rows.proofs.Room.{after-room, blocks-few, most-total}
+use Rattle.buffers.proofs.Filling.{fewer-fit, value-local}
+use Rattle.rows.proofs.Blocks.{block-none, block-more}
+use Rattle.rows.proofs.Room.{after-room}
 use Rattle.sheets.specs.declared.sizes.Sizes.{Sizes}
-use Rattle.ahead.specs.Pass.{Within, sumLeft, riseOf}
-use Rattle.ahead.proofs.Passing.{in-range, most-before, block-low, lowest-high, line-room, line-start, line-lowest, number-low, risen-small, ahead-none, ahead-more}
+use Rattle.ahead.specs.Pass.{Within, sumLeft, riseOf, stepped}
+use Rattle.ahead.proofs.Passing.{LineAt, most-is, block-low, lowest-high, line-asked, line-there, number-low, risen-small}
 use Rattle.ahead.proofs.pass.fill_block.Statement.{statement}
 use Rattle.ahead.proofs.pass.fill_block.Tie as tie
 
@@ -30,28 +30,12 @@ abbrev μ-loop : tie.MeasureT-loop
 μ-loop sheet sizes lanes next values block ahead₀ at most lowest first far₀ steps₀ ahead far steps =
     suc (pred (sizes .bound) * sizes .largest) - (lowest + steps)
 
--- the block's line is within the table, as the code finds it
-line : (c : tie.After-line-at Inv-loop μ-loop) → c .line-at .result + 3 ≤ length (c .before .before .before .before .args .lanes .now)
-line c =
-    let start = c .before .before .before .before in
-    omega (arith, c .line-at .ensures, line-room (start .pre .0) (start .args .block) (start .pre .1))
+abbrev started : tie.After-line-at Inv-loop μ-loop → tie.Start Inv-loop μ-loop
+started c = c .before .before .before .before
 
--- the lowest last total of the block, and the number of its first queue
-lowest-read : (c : tie.After-line-at Inv-loop μ-loop) →
-    let a = c .before .before .before .before .args in
-    getD (a .lanes .now) (c .line-at .result + 1) 0 ≡ lowestOf (a .sizes .largest) (pred (a .sizes .bound)) (a .block)
-lowest-read c =
-    let start = c .before .before .before .before in
-    ap (λ (p : ℕ). getD (start .args .lanes .now) (p + 1) 0) (c .line-at .ensures) ∙
-    line-lowest (start .pre .0) (start .args .block) (start .pre .1)
-
-start-read : (c : tie.After-line-at Inv-loop μ-loop) →
-    let a = c .before .before .before .before .args in
-    getD (a .lanes .now) (c .line-at .result) 0 ≡ startOf (a .sizes .largest) (pred (a .sizes .bound)) (a .block)
-start-read c =
-    let start = c .before .before .before .before in
-    ap (λ (p : ℕ). getD (start .args .lanes .now) p 0) (c .line-at .ensures) ∙
-    line-start (start .pre .0) (start .args .block) (start .pre .1)
+-- the block's line
+line : (c : tie.After-line-at Inv-loop μ-loop) → LineAt (started c .pre .0) (started c .args .block) (c .line-at .result)
+line c = line-there (started c .pre .0) (started c .pre .1) (c .line-at .ensures)
 
 -- a turn of the loop
 
@@ -68,56 +52,48 @@ module _ (c : tie.Then1 Inv-loop μ-loop) where
   abbrev sizes : Sizes
   sizes = start .args .sizes
 
-  -- D times M, and one less of M
-  most-is : (pred (sizes .bound) * sizes .largest + sizes .largest ≡ sizes .bound * sizes .largest) × (sizes .bound * sizes .largest ≤ 48)
-  most-is =
-      let some = mul-le-mul-right (sizes .largest) (start .pre .0 .measured .bound-low) in
-      (omega (arith, most-before (start .pre .0), some), most-total (start .pre .0 .measured))
-
-  -- the last total is one of the block's
-  below : lowestOf (sizes .largest) (pred (sizes .bound)) (start .args .block) + turn .loop .steps ≤ pred (sizes .bound) * sizes .largest
-  below = omega (arith, turn .loop .inv .0, c .if1 .taken, most-before (start .pre .0))
-
+  -- it is at a queue of the block
   within : Within sizes (start .args .block) (turn .loop .steps)
-  within = record { block-low = start .pre .1; steps-high = below }
+  within =
+      record { block-low = start .pre .1; steps-high = omega (arith, turn .loop .inv .0, c .if1 .taken, most-is (start .pre .0)) }
 
-  -- so that its queue has a number, and the lanes have not risen far
-  number-few : startOf (sizes .largest) (pred (sizes .bound)) (start .args .block) + turn .loop .steps < 7084
-  number-few =
-      omega (
-        arith,
-        number-low (start .pre .0) (start .args .block) (start .pre .1) (turn .loop .steps) within,
-        after-room (start .pre .0 .measured),
-      )
-
-  far-small : turn .loop .far ≤ 48 * 49
-  far-small = omega (arith, turn .loop .inv .3, risen-small (start .pre .0) (start .args .block) (start .pre .1) (turn .loop .steps) within)
+  -- so that no number is large: the queue's, the last total as the code works it out, and how far a lane has risen
+  high : (startOf (sizes .largest) (pred (sizes .bound)) (start .args .block) + turn .loop .steps < 7084) ×
+      (getD (start .args .lanes .now) (turn .before .before .before .before .before .line-at .result + 1) 0 + turn .loop .steps ≤
+      pred (sizes .bound) * sizes .largest) ×
+      (pred (sizes .bound) * sizes .largest + sizes .largest ≡ sizes .bound * sizes .largest) × (sizes .bound * sizes .largest ≤ 48) ×
+      (turn .loop .far ≤ 48 * 49)
+  high = (
+    omega (arith, number-low (start .pre .0) within, after-room (start .pre .0 .measured)),
+    omega (arith, turn .loop .inv .0, within),
+    most-is (start .pre .0) .0,
+    most-is (start .pre .0) .1,
+    omega (arith, turn .loop .inv .3, risen-small (start .pre .0) within),
+  )
 
 line-at-requires : tie.Need-line-at-requires Inv-loop μ-loop
-line-at-requires c κs =
-    let start = c .before .before .before in
-    (omega arith, omega (arith, in-range (start .pre .0) .jobs-high), omega (arith, start .pre .1, blocks-few (start .pre .0 .measured)))
+line-at-requires c κs = line-asked (c .before .before .before .pre .0) (c .before .before .before .pre .1)
 
 cast-most : tie.Need-cast-most Inv-loop μ-loop
 cast-most c = omega (arith, c .before .before .before .before .before .pre .0 .measured .ranges .bound-high)
 
 mul-most : tie.Need-mul-most Inv-loop μ-loop
-mul-most c = omega (arith, most-total (c .before .before .before .before .before .before .pre .0 .measured))
+mul-most c = omega (arith, most-is (c .before .before .before .before .before .before .pre .0))
 
 add-lowest : tie.Need-add-lowest Inv-loop μ-loop
-add-lowest c = omega (arith, line (c .before .before))
+add-lowest c = omega (arith, line (c .before .before) .room)
 
 mul-lowest : tie.Need-mul-lowest Inv-loop μ-loop
-mul-lowest c = omega (arith, line (c .before .before))
+mul-lowest c = omega (arith, line (c .before .before) .room)
 
 shared-slice-read-lowest : tie.Need-shared-slice-read-lowest Inv-loop μ-loop
-shared-slice-read-lowest c = omega (arith, line (c .before .before .before))
+shared-slice-read-lowest c = omega (arith, line (c .before .before .before) .room)
 
 mul-first : tie.Need-mul-first Inv-loop μ-loop
-mul-first c = omega (arith, line (c .before .before .before))
+mul-first c = omega (arith, line (c .before .before .before) .room)
 
 shared-slice-read-first : tie.Need-shared-slice-read-first Inv-loop μ-loop
-shared-slice-read-first c = omega (arith, line (c .before .before .before .before))
+shared-slice-read-first c = omega (arith, line (c .before .before .before .before) .room)
 
 cast-first : tie.Need-cast-first Inv-loop μ-loop
 cast-first c = omega (arith, c .shared-slice-known4 .given (c .before .before .before .before .line-at .result))
@@ -125,91 +101,67 @@ cast-first c = omega (arith, c .shared-slice-known4 .given (c .before .before .b
 loop-holds : tie.Need-loop-holds Inv-loop μ-loop
 loop-holds c =
     let at = c .before .before .before .before in
-    let start = at .before .before .before .before in
-    let a = start .args in
-    let low = lowest-read at in
-    let zero-steps = add-zero (lowestOf (a .sizes .largest) (pred (a .sizes .bound)) (a .block)) in (
-      low,
-      start-read at,
-      omega (arith, low, lowest-high (start .pre .0) (a .block) (start .pre .1)),
+    let start = started at in (
+      line at .lowest-is,
+      line at .number-is,
+      omega (arith, line at .lowest-is, lowest-high (start .pre .0) (start .pre .1)),
       risen-none _,
-      ahead-none width (a .sizes) _ (a .block) (block-low (start .pre .0) (a .block) (start .pre .1)) _ (a .ahead .now) zero-steps,
+      block-none (value-local width) (block-low (start .pre .0) (start .pre .1)) (omega arith),
     )
 
 add-if1 : tie.Need-add-if1 Inv-loop μ-loop
-add-if1 c =
-    let given = begun c .pre .0 in
-    omega (arith, c .loop .inv .2, most-before given, most-total (given .measured))
+add-if1 c = omega (arith, c .loop .inv .2, most-is (begun c .pre .0))
 
 sub-if1 : tie.Need-sub-if1 Inv-loop μ-loop
-sub-if1 c =
-    let start = begun (c .before) in
-    omega (arith, mul-le-mul-right (start .args .sizes .largest) (start .pre .0 .measured .bound-low))
+sub-if1 c = omega (arith, most-is (begun (c .before) .pre .0))
 
 sum-at-requires : tie.Need-sum-at-requires Inv-loop μ-loop
 sum-at-requires c κs = (start c .pre .0, within c, turn c .loop .inv .3)
 
 cast-store : tie.Need-cast-store Inv-loop μ-loop
-cast-store c = omega (arith, number-few (c .before .before))
+cast-store c = omega (arith, high (c .before .before) .0)
 
 add-store : tie.Need-add-store Inv-loop μ-loop
-add-store c = omega (arith, turn (c .before .before) .loop .inv .1, number-few (c .before .before))
+add-store c = omega (arith, turn (c .before .before) .loop .inv .1, high (c .before .before) .0)
 
 store-requires : tie.Need-store-requires Inv-loop μ-loop
 store-requires c κs =
     let t = c .before .before in
-    let start = start t in
     let l = turn t .loop in
-    fewer-fit width {m = start .args .sizes .after}
-    (omega (arith, l .inv .1, number-low (start .pre .0) (start .args .block) (start .pre .1) (l .steps) (within t)))
-    (omega (arith, start .pre .2, l .inv .4 .same-length))
+    fewer-fit width {m = sizes t .after} (omega (arith, l .inv .1, number-low (start t .pre .0) (within t)))
+    (omega (arith, start t .pre .2, l .inv .4 .same-length))
 
 add-far : tie.Need-add-far Inv-loop μ-loop
-add-far c = omega (arith, most-is (c .before .before .before .before .before))
-
--- the lowest last total and the steps, behind the store
-steps-low : (c : tie.Then1 Inv-loop μ-loop) →
-    let t = turn c in
-    getD (start c .args .lanes .now) (t .before .before .before .before .before .line-at .result + 1) 0 + t .loop .steps ≤
-    sizes c .bound * sizes c .largest
-steps-low c = omega (arith, turn c .loop .inv .0, below c, most-is c)
+add-far c = omega (arith, high (c .before .before .before .before .before) .3)
 
 sub-far : tie.Need-sub-far Inv-loop μ-loop
-sub-far c = omega (arith, steps-low (c .before .before .before .before .before))
+sub-far c = omega (arith, high (c .before .before .before .before .before))
 
 sub-far-2 : tie.Need-sub-far-2 Inv-loop μ-loop
-sub-far-2 c = omega (arith, steps-low (c .before .before .before .before .before))
+sub-far-2 c = omega (arith, high (c .before .before .before .before .before))
 
 add-far-2 : tie.Need-add-far-2 Inv-loop μ-loop
-add-far-2 c =
-    let t = c .before .before .before .before .before in
-    omega (arith, far-small t, most-is t)
+add-far-2 c = omega (arith, high (c .before .before .before .before .before))
 
 add-steps : tie.Need-add-steps Inv-loop μ-loop
-add-steps c =
-    let t = c .before .before .before .before .before in
-    omega (arith, below t, most-is t)
+add-steps c = omega (arith, high (c .before .before .before .before .before) .0)
 
 loop-less : tie.Need-loop-less Inv-loop μ-loop
-loop-less c =
-    let t = c .before .before .before .before .before in
-    omega (arith, turn t .loop .inv .0, below t)
+loop-less c = omega (arith, high (c .before .before .before .before .before) .1)
 
 loop-again : tie.Need-loop-again Inv-loop μ-loop
 loop-again c =
     let t = c .before .before .before .before .before in
     let l = turn t .loop in
     let start = start t in
-    let a = start .args in
-    let most = a .sizes .bound * a .sizes .largest + 1 in
-    let lowest = lowestOf (a .sizes .largest) (pred (a .sizes .bound)) (a .block) in (
+    let most = start .args .sizes .bound * start .args .sizes .largest + 1 in (
       l .inv .0,
       l .inv .1,
-      omega (arith, l .inv .0, below t),
-      risen-more (most - lowest) (l .steps) (l .inv .3) (ap (λ (x : ℕ). most - x - l .steps) (l .inv .0)),
-      ahead-more width (a .sizes) _ (a .block) (block-low (start .pre .0) (a .block) (start .pre .1)) (l .steps) _ (within t)
-          (ap (λ (x : ℕ). x + l .steps) (l .inv .1)) (c .before .before .before .before .sum-at .ensures) (l .inv .4)
-          (c .before .before .store .ensures),
+      omega (arith, l .inv .0, within t),
+      risen-more _ (l .steps) (l .inv .3) (ap (λ (x : ℕ). most - x - l .steps) (l .inv .0)),
+      block-more (value-local width) (block-low (start .pre .0) (start .pre .1))
+          (stepped (start .args .sizes) (start .args .block) (l .steps)) (omega arith) (within t .steps-high) (omega arith) (omega arith)
+          (omega (arith, l .inv .1)) (c .before .before .before .before .sum-at .ensures) (l .inv .4) (c .before .before .store .ensures),
     )
 
 same-length : tie.Need-same-length Inv-loop μ-loop
@@ -219,15 +171,11 @@ returns : tie.Need-returns Inv-loop μ-loop
 returns c =
     let l = c .before .before .loop in
     let start = begun (c .before .before) in
-    let a = start .args in
-    let lowest = lowestOf (a .sizes .largest) (pred (a .sizes .bound)) (a .block) in
-    let all : lowest + l .steps ≡ suc (pred (a .sizes .bound) * a .sizes .largest) =
-    omega (arith, l .inv .0, l .inv .2, c .if1 .left, most-before (start .pre .0)) in
-    subst
-    (λ (x : ℕ). FillsWhere (width .places) (valueIn width)
-    (λ i. sumLeft width (viewOf (a .sheet)) (a .sizes) (a .next) (a .values .now) i (a .sheet .«job_count»)) 0
-    (InBlock (a .sizes .largest) (pred (a .sizes .bound)) (a .block) x) (a .ahead .now) (l .ahead))
-    all (l .inv .4)
+    let M = start .args .sizes .largest in
+    let d = pred (start .args .sizes .bound) in
+    let all : suc (d * M) ≡ lowestOf M d (start .args .block) + l .steps =
+    omega (arith, l .inv .0, l .inv .2, c .if1 .left, most-is (start .pre .0)) in
+    rw all (l .inv .4)
 
 pub fill-block-spec : {M : Type 1} → statement M
 fill-block-spec =

@@ -1,82 +1,43 @@
 -- `value_on` meets its contract: the lane tells the number of the queue with the arrival, and the row has its value there.
-use Prim.Native.Nat.{ℕ, _+_, _*_, _-_, _≤_, _<_}
-use mathlib.Core.Path.{_≡_, sym, ap, _∙_}
-use native.Mathlib.Nat.{mul-le-mul}
+use Prim.Native.Nat.{_+_, _*_}
+use mathlib.Core.Path.{_∙_}
 use native.Mathlib.Omega.{arith}
 use borrow.Author.Needs.{needs}
-use lib.ListN.{length, getD}
-use Rattle.model.specs.View.{viewOf}
-use Rattle.model.specs.Queue.{numberOf}
+use lib.ListN.{getD}
 use Rattle.value.specs.Narrow.{width}
-use Rattle.model.specs.Width.{valueIn}
 use Rattle.buffers.proofs.Filling.{fewer-fit}
-use Rattle.rows.proofs.Room.{blocks-few}
-use Rattle.rows.specs.Rows.{afterWith}
-use Rattle.entry_lanes.specs.Lanes.{joined}
-use Rattle.ahead.specs.Pass.{stepped}
-use Rattle.ahead.proofs.Passing.{in-range, columns-room, most-before-small, lift-read, lift-small, line-room, line-lane, number-told, number-joined, value-joined}
+use Rattle.ahead.proofs.Passing.{LineAt, Lifted, columns-room, line-asked, line-there, lane-lifted, value-there}
 use Rattle.ahead.proofs.sums.value_on.Statement.{statement}
 use Rattle.ahead.proofs.sums.value_on.Tie as tie
 
--- the block's line is within the table, as the code finds it
-line : (c : tie.After-line-at) →
-    let a = c .before .before .before .args in
-    c .line-at .result + 3 + a .place < length (a .lanes .now)
-line c =
-    let start = c .before .before .before in
-    omega (arith, c .line-at .ensures, line-room (start .pre .0) (start .args .block) (start .pre .1 .within .block-low), start .pre .2)
+abbrev started : tie.After-line-at → tie.Start
+started c = c .before .before .before
 
--- what is read of the lane and of the lift comes to the number of the queue with the arrival, which is one
+-- the block's line
+line : (c : tie.After-line-at) → LineAt (started c .pre .0) (started c .args .block) (c .line-at .result)
+line c = line-there (started c .pre .0) (started c .pre .1 .within .block-low) (c .line-at .ensures)
+
+-- what is read of the lane and of the lift
 told : (c : tie.After-line-at) →
-    let a = c .before .before .before .args in
-    let number = numberOf (a .sizes .largest)
-    (joined (viewOf (a .sheet)) (afterWith (a .sizes .largest) (a .sizes .bound) (stepped (a .sizes) (a .block) (a .steps)))
-    (a .place)) in
-    (number + a .steps * getD (a .lanes .now) (32 + a .place) 0 ≡ getD (a .lanes .now) (c .line-at .result + 3 + a .place) 0 + a .far) ×
-    (a .steps * getD (a .lanes .now) (32 + a .place) 0 ≤ 48 * 255) × (number < a .sizes .queues) × (a .sizes .queues ≤ 65535)
-told c =
-    let start = c .before .before .before in
-    let a = start .args in
-    let given = start .pre .0 in
-    let inside = start .pre .1 .within in
-    let lane =
-    ap (λ (p : ℕ). getD (a .lanes .now) (p + 3 + a .place) 0) (c .line-at .ensures) ∙ line-lane given (a .block) (inside .block-low)
-    (a .place) (start .pre .2) in
-    let lift = lift-read given (a .place) (start .pre .2) in
-    let lifted = ap (λ (x : ℕ). a .steps * x) lift in
-    let few : a .steps ≤ 48 = omega (arith, inside .steps-high, most-before-small given) in
-    let small : getD (a .lanes .now) (32 + a .place) 0 ≤ 255 = omega (arith, lift, lift-small given (a .place) (start .pre .2)) in (
-      omega (
-        arith,
-        lane,
-        lifted,
-        start .pre .1 .far-is,
-        number-told given (a .block) (inside .block-low) (a .steps) inside (start .pre .1 .before-end) (a .place) (start .pre .2),
-      ),
-      mul-le-mul few small,
-      number-joined given (a .block) (inside .block-low) (a .steps) inside (start .pre .1 .before-end) (a .place) (start .pre .2),
-      given .measured .queues-high,
-    )
+    let a = started c .args in
+    Lifted (a .sizes .queues) (getD (a .lanes .now) (c .line-at .result + 3 + a .place) 0 + a .far)
+    (a .steps * getD (a .lanes .now) (32 + a .place) 0)
+told c = lane-lifted (started c .pre .0) (started c .pre .1) (started c .pre .2) (c .line-at .ensures)
 
 line-at-requires : tie.Need-line-at-requires
-line-at-requires c κs =
-    let start = c .before .before in (
-      omega arith,
-      omega (arith, in-range (start .pre .0) .jobs-high),
-      omega (arith, start .pre .1 .within .block-low, blocks-few (start .pre .0 .measured)),
-    )
+line-at-requires c κs = line-asked (c .before .before .pre .0) (c .before .before .pre .1 .within .block-low)
 
 add-on : tie.Need-add-on
-add-on c = omega (arith, line c)
+add-on c = omega (arith, line c .room)
 
 add-on-2 : tie.Need-add-on-2
-add-on-2 c = omega (arith, line c)
+add-on-2 c = omega (arith, line c .room)
 
 mul-on : tie.Need-mul-on
-mul-on c = omega (arith, line c)
+mul-on c = omega (arith, line c .room)
 
 shared-slice-read-on : tie.Need-shared-slice-read-on
-shared-slice-read-on c = omega (arith, line (c .before))
+shared-slice-read-on c = omega (arith, line (c .before) .room)
 
 add-on-3 : tie.Need-add-on-3
 add-on-3 c = omega (arith, told (c .before))
@@ -88,9 +49,7 @@ mul-on-2 : tie.Need-mul-on-2
 mul-on-2 c = search needs
 
 shared-slice-read-on-2 : tie.Need-shared-slice-read-on-2
-shared-slice-read-on-2 c =
-    let start = c .before .before .before .before .before in
-    omega (arith, in-range (start .pre .0) .jobs-high, columns-room (start .pre .0))
+shared-slice-read-on-2 c = omega (arith, columns-room (started (c .before .before) .pre .0))
 
 mul-on-3 : tie.Need-mul-on-3
 mul-on-3 c = omega (arith, told (c .before .before))
@@ -103,24 +62,17 @@ cast-load c = omega (arith, told (c .before .before))
 
 add-load : tie.Need-add-load
 add-load c =
-    let start = c .before .before .before .before .before in
+    let start = started (c .before .before) in
     omega (arith, told (c .before .before), start .pre .0 .room, start .good .1 .1 .1 .1 .0 .0)
 
 load-requires : tie.Need-load-requires
-load-requires c κs =
-    let start = c .before .before .before .before .before in
-    fewer-fit width (omega (arith, told (c .before .before))) (start .pre .0 .room)
+load-requires c κs = fewer-fit width (omega (arith, told (c .before .before))) (started (c .before .before) .pre .0 .room)
 
 returns : tie.Need-returns
 returns c =
     let at = c .before .before .before in
-    let start = at .before .before .before in
-    let a = start .args in
-    let on = told at in
-    c .load .ensures ∙
-    ap (λ (n : ℕ). valueIn width (a .values .now) (a .next + n)) (omega (arith, on)) ∙
-    sym (value-joined (start .pre .0) (a .block) (start .pre .1 .within .block-low) (a .steps) (start .pre .1 .within)
-    (start .pre .1 .before-end) (a .place) (start .pre .2))
+    let start = started at in
+    c .load .ensures ∙ value-there (start .pre .0) (start .pre .1) (start .pre .2) (at .line-at .ensures)
 
 pub value-on-spec : {M : Type 1} → statement M
 value-on-spec =

@@ -1,12 +1,15 @@
 -- `fill` meets its contract. The loop's invariant: the queues of the blocks passed are filled.
-use Prim.Native.Nat.{_-_, _≤_}
-use native.Mathlib.Nat.{le-refl}
+use Prim.Native.Nat.{pred, _-_, _≤_}
+use mathlib.Core.Path.{_≡_}
 use native.Mathlib.Omega.{arith}
 use Rattle.model.specs.View.{viewOf}
+use Rattle.model.specs.Queue.{queueCount}
 use Rattle.queues.specs.Blocks.{InBlocks}
+use Rattle.buffers.proofs.Filling.{value-local, number-local}
+use Rattle.rows.proofs.Blocks.{blocks-none, blocks-more, blocks-whole}
 use Rattle.value.specs.Narrow.{width, valueOf}
 use Rattle.choose.specs.Pass.{LeftWhere}
-use Rattle.choose.proofs.Passing.{block-low, left-begun, left-block, left-whole}
+use Rattle.choose.proofs.Passing.{block-low}
 use Rattle.choose.proofs.row.fill.Statement.{statement}
 use Rattle.choose.proofs.row.fill.Tie as tie
 
@@ -21,11 +24,7 @@ abbrev μ-loop : tie.MeasureT-loop
 
 loop-holds : tie.Need-loop-holds Inv-loop μ-loop
 loop-holds c =
-    let a = c .before .before .before .before .args in (
-      omega arith,
-      left-begun width (viewOf (a .sheet)) (a .sizes) (valueOf (a .scale)) (a .ahead .now) (a .this) (a .row) (a .values .now)
-          (a .plan .now),
-    )
+    (omega arith, record { values-filled = blocks-none (value-local width); plan-filled = blocks-none number-local })
 
 fill-block-requires : tie.Need-fill-block-requires Inv-loop μ-loop
 fill-block-requires c κs =
@@ -46,13 +45,14 @@ loop-less c = omega (arith, c .before .before .before .before .before .before .b
 loop-again : tie.Need-loop-again Inv-loop μ-loop
 loop-again c =
     let l = c .before .before .before .before .before .before .before .before .before in
-    let start = l .before .before .before .before .before in
-    let a = start .args in
-    let taken = c .before .before .before .before .before .before .before .if1 .taken in (
+    let taken = c .before .before .before .before .before .before .before .if1 .taken in
+    let low = block-low (l .before .before .before .before .before .pre .0) taken in
+    let block = c .before .before .before .before .fill-block .ensures in (
       omega (arith, taken),
-      left-block width (viewOf (a .sheet)) (a .sizes) (valueOf (a .scale)) (a .ahead .now) (a .this) (a .row) (l .loop .block)
-          (block-low (start .pre .0) (l .loop .block) taken) _ (le-refl _) (l .loop .inv .1)
-          (c .before .before .before .before .fill-block .ensures),
+      record {
+        values-filled = blocks-more (value-local width) low (l .loop .inv .1 .values-filled) (block .values-filled);
+        plan-filled = blocks-more number-local low (l .loop .inv .1 .plan-filled) (block .plan-filled);
+      },
     )
 
 same-length : tie.Need-same-length Inv-loop μ-loop
@@ -65,10 +65,13 @@ returns : tie.Need-returns Inv-loop μ-loop
 returns c =
     let l = c .before .before in
     let start = l .before .before .before .before .before in
-    let a = start .args in
-    left-whole width (viewOf (a .sheet)) (a .sizes) (valueOf (a .scale)) (a .ahead .now) (a .this) (a .row) (start .pre .0 .measured)
-    (l .loop .block)
-    (omega (arith, l .loop .inv .0, c .if1 .left)) (l .loop .inv .1)
+    let measured = start .pre .0 .measured in
+    let all : l .loop .block ≡ queueCount (start .args .sizes .largest) (pred (start .args .sizes .bound)) =
+    omega (arith, l .loop .inv .0, c .if1 .left, measured .after-is) in
+    record {
+      values-filled = blocks-whole (value-local width) all (measured .queues-is) (l .loop .inv .1 .values-filled);
+      plan-filled = blocks-whole number-local all (measured .queues-is) (l .loop .inv .1 .plan-filled);
+    }
 
 pub fill-spec : {M : Type 1} → statement M
 fill-spec =

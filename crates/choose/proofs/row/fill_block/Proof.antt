@@ -1,14 +1,15 @@
 -- `fill_block` meets its contract. The loop's invariant: the queues of the block with a smaller last total are filled.
-use Prim.Native.Nat.{ℕ, suc, _+_, _-_, _*_, _≤_}
-use mathlib.Core.Path.{_≡_, ap, _∙_, subst}
+use Prim.Native.Nat.{suc, _-_, _*_, _≤_}
+use mathlib.Core.Path.{_≡_, refl}
 use native.Mathlib.Omega.{arith}
-use lib.ListN.{length, getD}
 use Rattle.model.specs.View.{viewOf}
-use Rattle.queues.specs.Blocks.{lowestOf, InBlock}
+use Rattle.queues.specs.Blocks.{lowestOf, numberIn, InBlock}
 use Rattle.value.specs.Narrow.{width, valueOf}
-use Rattle.rows.proofs.Room.{after-room, most-total}
+use Rattle.buffers.proofs.Filling.{value-local, number-local}
+use Rattle.rows.proofs.Blocks.{block-none, block-more}
+use Rattle.rows.proofs.Room.{most-total}
 use Rattle.choose.specs.Pass.{Within, LeftWhere}
-use Rattle.choose.proofs.Passing.{in-range, block-low, lowest-high, line-room, line-lowest, left-none, left-more}
+use Rattle.choose.proofs.Passing.{LineAt, block-low, lowest-high, line-asked, line-there}
 use Rattle.choose.proofs.row.fill_block.Statement.{statement}
 use Rattle.choose.proofs.row.fill_block.Tie as tie
 
@@ -21,22 +22,12 @@ Inv-loop sheet sizes scale lanes ahead block this row values₀ plan₀ end last
 abbrev μ-loop : tie.MeasureT-loop
 μ-loop sheet sizes scale lanes ahead block this row values₀ plan₀ end last₀ values plan last = suc end - last
 
+abbrev started : tie.After-line-at Inv-loop μ-loop → tie.Start Inv-loop μ-loop
+started c = c .before .before .before .before .before .before .before
+
 -- the block's line
-
-abbrev found : tie.After-line-at Inv-loop μ-loop → tie.Start Inv-loop μ-loop
-found c = c .before .before .before .before .before .before .before
-
--- it is within the table, as the code finds it
-line : (c : tie.After-line-at Inv-loop μ-loop) → c .line-at .result + 3 ≤ length (found c .args .lanes .now)
-line c = omega (arith, c .line-at .ensures, line-room (found c .pre .0) (found c .args .block) (found c .pre .1))
-
--- the lowest last total of the block
-lowest : (c : tie.After-line-at Inv-loop μ-loop) →
-    let a = found c .args in
-    getD (a .lanes .now) (c .line-at .result + 1) 0 ≡ lowestOf (a .sizes .largest) (a .sizes .bound) (a .block)
-lowest c =
-    ap (λ (p : ℕ). getD (found c .args .lanes .now) (p + 1) 0) (c .line-at .ensures) ∙
-    line-lowest (found c .pre .0) (found c .args .block) (found c .pre .1)
+line : (c : tie.After-line-at Inv-loop μ-loop) → LineAt (started c .pre .0) (started c .args .block) (c .line-at .result)
+line c = line-there (started c .pre .0) (started c .pre .1) (c .line-at .ensures)
 
 -- a turn of the loop
 
@@ -63,27 +54,29 @@ mul-end c = omega (arith, most-total (c .before .before .before .before .before 
 line-at-requires : tie.Need-line-at-requires Inv-loop μ-loop
 line-at-requires c κs =
     let start = c .before .before .before .before .before .before in
-    (omega arith, omega (arith, in-range (start .pre .0) .speeds-high), omega (arith, start .pre .1, after-room (start .pre .0 .measured)))
+    line-asked (start .pre .0) (start .pre .1)
 
 add-last : tie.Need-add-last Inv-loop μ-loop
-add-last c = omega (arith, line c)
+add-last c = omega (arith, line c .room)
 
 mul-last : tie.Need-mul-last Inv-loop μ-loop
-mul-last c = omega (arith, line c)
+mul-last c = omega (arith, line c .room)
 
 shared-slice-read-last : tie.Need-shared-slice-read-last Inv-loop μ-loop
-shared-slice-read-last c = omega (arith, line (c .before))
+shared-slice-read-last c = omega (arith, line (c .before) .room)
 
 loop-holds : tie.Need-loop-holds Inv-loop μ-loop
 loop-holds c =
-    let start = c .before .before .before .before .before .before .before .before in
-    let a = start .args in
-    let low = lowest (c .before) in (
+    let start = started (c .before) in
+    let lowest = line (c .before) .lowest-is in
+    let low = block-low (start .pre .0) (start .pre .1) in (
       omega arith,
-      omega (arith, low, lowest-high (start .pre .0) (a .block) (start .pre .1)),
-      low,
-      left-none width (viewOf (a .sheet)) (a .sizes) (valueOf (a .scale)) (a .ahead .now) (a .this) (a .row) (a .block)
-          (block-low (start .pre .0) (a .block) (start .pre .1)) (a .values .now) (a .plan .now) low,
+      omega (arith, lowest, lowest-high (start .pre .0) (start .pre .1)),
+      lowest,
+      record {
+        values-filled = block-none (value-local width) low (omega (arith, lowest));
+        plan-filled = block-none number-local low (omega (arith, lowest));
+      },
     )
 
 fill-queue-requires : tie.Need-fill-queue-requires Inv-loop μ-loop
@@ -110,13 +103,21 @@ loop-again c =
     let l = t .before in
     let start = begun l in
     let a = start .args in
-    let inside = within l (omega (arith, t .loop-test .taken)) in (
+    let inside = within l (omega (arith, t .loop-test .taken)) in
+    let low = block-low (start .pre .0) (start .pre .1) in
+    let number = numberIn (a .sizes .largest) (a .sizes .bound) (a .block) (l .loop .last) in
+    let left = c .before .before .before .before .fill-queue .ensures in (
       omega (arith, l .loop .inv .0),
       omega (arith, t .loop-test .taken),
       l .loop .inv .2,
-      left-more width (viewOf (a .sheet)) (a .sizes) (valueOf (a .scale)) (a .ahead .now) (a .this) (a .row) (a .block)
-          (block-low (start .pre .0) (a .block) (start .pre .1)) (l .loop .last) (inside .last-low) (inside .last-high) (l .loop .inv .3)
-          (c .before .before .before .before .fill-queue .ensures),
+      record {
+        values-filled =
+            block-more (value-local width) low number (inside .last-low) (inside .last-high) (omega arith) refl refl refl
+            (l .loop .inv .3 .values-filled) (left .value-filled);
+        plan-filled =
+            block-more number-local low number (inside .last-low) (inside .last-high) (omega arith) refl refl refl
+            (l .loop .inv .3 .plan-filled) (left .byte-filled);
+      },
     )
 
 same-length : tie.Need-same-length Inv-loop μ-loop
@@ -127,13 +128,10 @@ same-length-2 c = c .before .loop .inv .3 .plan-filled .same-length
 
 returns : tie.Need-returns Inv-loop μ-loop
 returns c =
-    let l = c .before in
-    let a = begun l .args in
-    let all : l .loop .last ≡ suc (a .sizes .bound * a .sizes .largest) = omega (arith, l .loop .inv .1, c .loop-test .left) in
-    subst
-    (λ (x : ℕ). LeftWhere width (viewOf (a .sheet)) (a .sizes) (valueOf (a .scale)) (a .ahead .now) (a .this) (a .row)
-    (InBlock (a .sizes .largest) (a .sizes .bound) (a .block) x) (a .values .now) (a .plan .now) (l .loop .values) (l .loop .plan))
-    all (l .loop .inv .3)
+    let l = c .before .loop in
+    let a = begun (c .before) .args in
+    let all : suc (a .sizes .bound * a .sizes .largest) ≡ l .last = omega (arith, l .inv .1, c .loop-test .left) in
+    rw all (l .inv .3)
 
 pub fill-block-spec : {M : Type 1} → statement M
 fill-block-spec =
