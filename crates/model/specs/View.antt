@@ -57,7 +57,7 @@ inMemory s =
       jobs = padded 32 zeroJob (s .jobs);
     }
 
--- a sheet of these two tables: the counts are their lengths
+-- the view of a sheet with these two tables: the counts are their lengths
 abbrev pub viewWith : ℕ → List Speed → ℕ → List Job → View
 viewWith D speeds T jobs =
     record { bound = D; speedCount = length speeds; speeds = speeds; horizon = T; jobCount = length jobs; jobs = jobs }
