@@ -13,7 +13,8 @@ use Rattle.reader.specs.declared.ReadSheet.{ReadSheet}
 use Rattle.writer.specs.declared.Written.{Written}
 use Rattle.model.specs.Plan.{Leaves, row}
 use Rattle.model.specs.Plan as model-plan
-use Rattle.model.proofs.Leaves.{leaves-unique, narrow-telling}
+use Rattle.model.proofs.Leaves.{leaves-unique}
+use Rattle.model.proofs.Width.{narrow-telling}
 use Rattle.layout.specs.Calls.{IsRow}
 use Rattle.planner.specs.Calls.{IsPlan}
 use Rattle.planner.specs.declared.calls.PlanAnswer.{PlanAnswer}

@@ -13,7 +13,8 @@ use Rattle.model.specs.Refusal.{N, sheetRefusal, valueLimit}
 use Rattle.model.specs.declared.Sheet.{Sheet}
 use Rattle.model.specs.Width.{narrow, valueIn}
 use Rattle.model.proofs.Cases.{A-holds, hopeless-holds}
-use Rattle.model.proofs.Leaves.{narrow-same, one-value, plan-byte-same, answer-same}
+use Rattle.model.proofs.Leaves.{one-value, plan-byte-same, answer-same}
+use Rattle.model.proofs.Width.{narrow-same}
 use Rattle.planner.specs.declared.calls.PlanAnswer as code
 use Rattle.demands.specs.Calls.{Plans, answered}
 use Rattle.demands.proofs.Demand2.{planned-by-room, planned-filled}

@@ -7,13 +7,12 @@ use native.Mathlib.Nat.{zero-lt-suc, pow-suc, pow-zero, one-le-pow, mod-lt, div-
 use native.Mathlib.Numerals.{add-one}
 use native.Mathlib.Omega.{arith}
 use borrow.Author.Tests.{ltb-true, ltb-false, leb-false, eqb-false, le-ltb, lt-leb, ne-eqb}
-use lib.Dec.{leb, ltb, eqb, ltb→lt, lt→ltb}
+use lib.Dec.{leb, ltb, eqb}
 use lib.ListN.{length, getD, take, length-append}
 use lib.Seq.{take-suc, append-snoc, getD-append-seam}
 use Rattle.model.specs.Bytes.{AreBytes, codeIn, code}
 use Rattle.model.specs.Reading.{Answer, value, refused, joined, numberIn, field}
 use Rattle.laws.proofs.Readers.{refused-no-value}
-use Rattle.model.proofs.Tests.{same-test}
 
 -- a number in groups, of any base: what is left without its last group takes one group less
 pub rest-short : (base n x : ℕ) → 0 < base → x < base ^ suc n → x / base < base ^ n
@@ -122,23 +121,3 @@ number-bytes (suc n) bytes all at x next e =
 pub field-bytes : (bytes : List ℕ) → AreBytes bytes → (at x next : ℕ) → field bytes at ≡ value x next →
     (take next bytes ≡ take at bytes ++ code x) × (x < 128 ^ 3)
 field-bytes bytes all at x next e = number-bytes 3 bytes all at x next e
-
--- the length of the code, and its bytes
-
--- one, two or three bytes, by two choices; a third does not change the length
-lengths : (a b c : Bool) (u v w x y z : ℕ) →
-    length (cond a (u ∷ []) (v ∷ cond b (w ∷ []) (x ∷ cond c (y ∷ []) (z ∷ [])))) ≡ cond a 1 (cond b 2 3)
-lengths true b c u v w x y z = refl
-lengths false true c u v w x y z = refl
-lengths false false true u v w x y z = refl
-lengths false false false u v w x y z = refl
-
--- a number below 128 has one byte, one below 128 * 128 two, and any other three
-pub length-code : (x : ℕ) → length (code x) ≡ cond (ltb x 128) 1 (cond (ltb x 16384) 2 3)
-unfolding codeIn
-length-code x =
-    let two : ltb (x / 128) 128 ≡ ltb x 16384 =
-    same-test (ltb (x / 128) 128) (ltb x 16384)
-    (λ t. lt→ltb x 16384 (div-lt-iff-lt-mul (zero-lt-suc 127) .0 (ltb→lt (x / 128) 128 t)))
-    (λ t. lt→ltb (x / 128) 128 (div-lt-iff-lt-mul (zero-lt-suc 127) .1 (ltb→lt x 16384 t))) in
-    rw (← two) (lengths (ltb x 128) (ltb (x / 128) 128) (ltb (x / 128 / 128) 128) _ _ _ _ _ _)

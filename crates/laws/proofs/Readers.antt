@@ -42,16 +42,6 @@ pub bind-refused : {A B : Type 0} (r : Reader A) (more : A → Reader B) (bytes 
     r bytes at ≡ refused k → _>>=_ r more bytes at ≡ refused k
 bind-refused r more bytes at e = rw e
 
--- a read that gave a value goes on, where the rest does not look at the value
-pub after-value : {A B : Type 0} (r : Reader A) (more : Reader B) (bytes : List ℕ) (at : ℕ) {a : A} {next : ℕ} →
-    r bytes at ≡ value a next → _>>_ r more bytes at ≡ more bytes next
-after-value r more bytes at e = bind-value r (λ a. more) bytes at e
-
--- a read that was refused is the answer, there too
-pub after-refused : {A B : Type 0} (r : Reader A) (more : Reader B) (bytes : List ℕ) (at : ℕ) {k : ℕ} →
-    r bytes at ≡ refused k → _>>_ r more bytes at ≡ refused k
-after-refused r more bytes at e = bind-refused r (λ a. more) bytes at e
-
 -- where an answer and what comes after it gave a value, so did the answer, and what comes after it gave the value from there
 pub onward-gave : {A B : Type 0} (x : Answer A) (more : A → ℕ → Answer B) {b : B} {next : ℕ} → onward x more ≡ value b next →
     (a : A) × (mid : ℕ) × (x ≡ value a mid) × (more a mid ≡ value b next)
@@ -59,14 +49,6 @@ onward-gave (value a mid) more e = (a, mid, refl, e)
 onward-gave (refused k) more e = absurd (refused-no-value e)
 
 -- tests
-
--- a test that holds passes, and takes no byte
-pub test-passes : (b : Bool) (number : ℕ) (bytes : List ℕ) (at : ℕ) → b ≡ true → test b number bytes at ≡ value tt at
-test-passes b number bytes at e = rw e
-
--- a test that does not hold refuses with its number
-pub test-fails : (b : Bool) (number : ℕ) (bytes : List ℕ) (at : ℕ) → b ≡ false → test b number bytes at ≡ refused number
-test-fails b number bytes at e = rw e
 
 -- where a test and what comes after it gave a value, the test holds and what comes after it gave the value
 pub test-gave : {A : Type 0} (b : Bool) (number : ℕ) (bytes : List ℕ) (at : ℕ) (more : ℕ → Answer A) {a : A} {next : ℕ} →

@@ -48,10 +48,6 @@ module _ (s : View) where
     leb→le (planNeeded s) room (check-zero (leb (planNeeded s) room) 10 (then-right (sheetRefusal valueLimit s) _ e)),
   )
 
-  -- every place of the sheet's slots and queues is then within the plan
-  pub place-within : (room t i : ℕ) → rowRefusal s room ≡ 0 → t < s .horizon → i < N s → placeAt s t i < room
-  place-within room t i e h l = omega (arith, suc-mul t (N s), mul-le-mul-right (N s) h, row-accepted room e .1)
-
   -- the planner, at any width
 
   module _ (width : Width) where

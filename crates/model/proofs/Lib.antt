@@ -4,5 +4,6 @@ pub mod View
 pub mod Queues
 pub mod Refusal
 pub mod Admissible
+pub mod Width
 pub mod Leaves
 pub mod Cases

@@ -9,7 +9,7 @@ use mathlib.Core.Logic.{⊎-elim, _⊎_, inl, inr}
 use native.Mathlib.Nat.{zero-add, le-of-suc-le-suc, le-refl, not-suc-le-zero, eq-or-lt-of-le, lt-irrefl, zero-lt-suc}
 use native.Mathlib.Omega.{arith}
 use borrow.Author.Tests.{ltb-true, ltb-false}
-use lib.Dec.{T, leb, ltb, eqb, leb→le, le→leb, eqb→eq}
+use lib.Dec.{T, leb, ltb, eqb, leb→le, le→leb}
 use lib.ListN.{length, getD, replicate, length-append, length-map, length-replicate, List·getD-eq-default}
 use lib.Seq.{ext-getD, length-take-le, getD-take, take-take, take-append-seam}
 use Rattle.process.specs.Sums.{sum, same}
@@ -98,16 +98,6 @@ bearable-all M w all =
 pub held-bearable : (M D : ℕ) (places : List ℕ) → T (bearableIn M D places) → T (bearable M (queueIn D places))
 unfolding bearableIn
 held-bearable M D places t = and-left (bearable M (queueIn D places)) _ t
-
--- .. and the others are zero
-pub held-zero : (M D : ℕ) (places : List ℕ) → T (bearableIn M D places) → (i : ℕ) → D ≤ i → i < positions → getD places i 0 ≡ 0
-unfolding bearableIn
-held-zero M D places t i h l =
-    let zeros = and-right (bearable M (queueIn D places)) _ t in
-    let same : D + (i - D) ≡ i = omega arith in
-    eqb→eq (getD places i 0) 0
-    (subst (λ (k : ℕ). T (eqb (getD places k 0) 0)) same
-    (everywhere-at (unusedAt D places) (positions - D) zeros (i - D) (omega arith)))
 
 -- a queue and the six places that it stands in
 
@@ -416,11 +406,6 @@ total-empty D zero = refl
 total-empty zero (suc i) = refl
 total-empty (suc D) (suc zero) = refl
 total-empty (suc D) (suc (suc i)) = total-empty D (suc i)
-
--- the empty queue is bearable
-pub empty-bearable : (M D : ℕ) → T (bearable M (emptyQueue D))
-empty-bearable M D =
-    bearable-all M (emptyQueue D) (λ i h. (omega (arith, total-empty D i), omega (arith, total-empty D (suc i))))
 
 -- the first continuation stays at w
 continuations-first : (M r w g : ℕ) → (l : List Queue) × (continuations M r w g ≡ listed (λ i. w) r ∷ l)

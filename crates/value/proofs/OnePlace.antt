@@ -4,7 +4,7 @@ use mathlib.Core.Path.{_≡_, ap, _∙_}
 use mathlib.Core.List.{List}
 use lib.ListN.{length, getD, set}
 use Rattle.model.specs.Width.{decode, valueIn}
-use Rattle.model.proofs.Leaves.{placed-narrow}
+use Rattle.model.proofs.Width.{placed-narrow}
 use Rattle.buffers.specs.Fills.{Fills}
 use Rattle.buffers.proofs.Filling.{number-stored}
 use Rattle.value.specs.Narrow.{width}
