@@ -21,14 +21,14 @@ use Rattle.model.specs.Plan as model-plan
 use Rattle.model.specs.Queue.{emptyQueue, bearable}
 use Rattle.model.specs.Refusal.{N}
 use Rattle.model.specs.Stepper as model-stepper
-use Rattle.model.specs.Stepper.{queueOf, planByte, startLines, speedLines, isEntry, moved, advanceLines, energyLimit, zeroState}
+use Rattle.model.specs.Stepper.{queueOf, planByte, beginsRight, startLines, endingLines, isEntry, moved, advanceLines, energyLimit, zeroState}
 use Rattle.model.specs.Tests.{line, _⨾_}
 use Rattle.model.specs.declared.Sheet.{Sheet}
 use Rattle.model.specs.Width.{narrow}
 use Rattle.laws.proofs.Listing.{list-number}
 use Rattle.laws.proofs.Rooms.{row-none, row-past, row-there, row-accepted}
 use Rattle.laws.proofs.RoundTrip.{write-number}
-use Rattle.laws.proofs.Stepper.{start-number, speed-number, advance-number, speed-accepted, byte-on-sheet, moved-by}
+use Rattle.laws.proofs.Stepper.{start-number, advance-number, ending-accepted, byte-on-sheet, moved-by}
 use Rattle.laws.proofs.Stepping.{energy-small}
 use Rattle.laws.proofs.Written.{wrote-refused}
 use Rattle.reader.specs.declared.ReadSheet.{ReadSheet}
@@ -38,12 +38,11 @@ use Rattle.planner.specs.declared.calls.PlanAnswer.{PlanAnswer}
 use Rattle.stepper.specs.Calls.{stateOf}
 use Rattle.stepper.specs.declared.state.State.{State}
 use Rattle.stepper.specs.declared.state.Stepped.{Stepped}
-use Rattle.stepper.specs.declared.state.Told.{Told}
-use Rattle.demands.specs.Calls.{Reads, Writes, Plans, answered, IsValueOfEmpty, Rows, Lists, Starts, Speeds, Advances}
+use Rattle.demands.specs.Calls.{Reads, Writes, Plans, answered, IsValueOfEmpty, Rows, Lists, Starts, Advances}
 use Rattle.orders.specs.Numbers.{FailsFirst, Tells, Answers, AnswersOr12, sheetIn, readLines}
 use Rattle.demands.proofs.Demand2.{planned-filled}
-use Rattle.demands.proofs.Determined.{read-is, write-is, plan-is, row-is, list-is, start-is, speed-is, advance-is}
-use Rattle.orders.proofs.InOrder.{all-zero, all-or-fails, later, answers, NumberedOr12, answers-or-12}
+use Rattle.demands.proofs.Determined.{read-is, write-is, plan-is, row-is, list-is, start-is, advance-is}
+use Rattle.orders.proofs.InOrder.{all-zero, all-or-fails, later, earlier, answers, NumberedOr12, answers-or-12}
 use Rattle.orders.proofs.ReadInOrder.{read-number, read-zero, read-accepted}
 use Rattle.orders.proofs.SheetInOrder.{each-field, each-limit, each-of-sheet}
 
@@ -176,55 +175,43 @@ module _ {sheet : Sheet} {least : ℕ} {bytes before after : List ℕ} {a : List
       let s = viewOf sheet in
       wrote-refused (listRefusal s least bytes (length before)) (listing s least bytes) before (list-is call) refused
 
--- start: "Start: 4 to 10, 13"
-module _ {state : State} {sheet : Sheet} {a : Stepped} (call : Starts state sheet a) where
-  pub start-answers : Answers (a .number) (startLines (viewOf sheet) (stateOf state)) (4 ∷ 5 ∷ 6 ∷ 7 ∷ 8 ∷ 9 ∷ 10 ∷ 13 ∷ [])
-  unfolding startLines
+-- start: request [1], "start checks 4 to 10, 11, 13, 16"
+module _ {state : State} {sheet : Sheet} {bytes : List ℕ} {a : Stepped} (call : Starts state sheet bytes a) where
+  pub start-answers : Answers (a .number) (startLines (viewOf sheet) bytes (stateOf state)) (4 ∷ 5 ∷ 6 ∷ 7 ∷ 8 ∷ 9 ∷ 10 ∷ 11 ∷ 13 ∷ 16 ∷ [])
+  unfolding startLines rowLines
   start-answers =
       let s = viewOf sheet in
-      answers _ _ (startLines s (stateOf state)) (each-of-sheet _ s _ _ _, _) (start-is call .number-is ∙ start-number s (stateOf state) .0)
+      answers _ _ (startLines s bytes (stateOf state)) ((each-of-sheet _ s _ _ _, _), _)
+      (start-is call .number-is ∙ start-number s bytes (stateOf state) .0)
 
-  -- "A refused start gives an all-zero state"
-  pub start-refused : (a .number ≡ 0 → ⊥) → stateOf (a .state) ≡ zeroState
+  -- "A refused start gives an all-zero state"; "a refused call's speed is 0"
+  pub start-refused : (a .number ≡ 0 → ⊥) → (stateOf (a .state) ≡ zeroState) × (a .speed ≡ 0)
   start-refused refused =
       let promised = start-is call in
-      promised .state-is ∙ start-number (viewOf sheet) (stateOf state) .1 (λ e. refused (promised .number-is ∙ e))
+      let gives = start-number (viewOf sheet) bytes (stateOf state) .1 (λ e. refused (promised .number-is ∙ e)) in
+      (promised .state-is ∙ gives .0, promised .speed-is ∙ gives .1)
 
--- speed: "Speed: 4 to 10, 11, 13, 14, 16"
-module _ {state : State} {sheet : Sheet} {bytes : List ℕ} {a : Told} (call : Speeds state sheet bytes a) where
-  pub speed-answers : Answers (a .number) (speedLines (viewOf sheet) bytes (stateOf state)) (4 ∷ 5 ∷ 6 ∷ 7 ∷ 8 ∷ 9 ∷ 10 ∷ 11 ∷ 13 ∷ 14 ∷ 16 ∷ [])
-  unfolding speedLines rowLines
-  speed-answers =
-      let s = viewOf sheet in
-      answers _ _ (speedLines s bytes (stateOf state)) ((each-of-sheet _ s _ _ _, _), _)
-      (speed-is call .number-is ∙ speed-number s bytes (stateOf state) .0)
-
-  -- "A refused speed is 0"
-  pub speed-refused : (a .number ≡ 0 → ⊥) → a .speed ≡ 0
-  speed-refused refused =
-      let promised = speed-is call in
-      promised .speed-is ∙ speed-number (viewOf sheet) bytes (stateOf state) .1 (λ e. refused (promised .number-is ∙ e))
-
--- advance: "the same, then 15, 17, 18"
+-- advance: 4 to 10, 11, 13, 14 and 16 for the slot that ends, then 15; request [1], "advance ends with 17, 18, then 16 for the new slot"
 module _ {state : State} {sheet : Sheet} {bytes : List ℕ} {size deadline : ℕ} {a : Stepped}
     (call : Advances state sheet bytes size deadline a) where
   pub advance-answers : Answers (a .number) (advanceLines (viewOf sheet) bytes (stateOf state) size deadline)
       (4 ∷ 5 ∷ 6 ∷ 7 ∷ 8 ∷ 9 ∷ 10 ∷ 11 ∷ 13 ∷ 14 ∷ 16 ∷ 15 ∷ 17 ∷ 18 ∷ [])
-  unfolding advanceLines speedLines rowLines
+  unfolding advanceLines endingLines rowLines
   advance-answers =
       let s = viewOf sheet in
       answers _ _ (advanceLines s bytes (stateOf state) size deadline) (((each-of-sheet _ s _ _ _, _), _), _)
       (advance-is call .number-is ∙ advance-number s bytes (stateOf state) size deadline .0)
 
-  -- "a refused advance hands back the state it got"
-  pub advance-refused : (a .number ≡ 0 → ⊥) → stateOf (a .state) ≡ stateOf state
+  -- "a refused advance hands back the state it got"; "a refused call's speed is 0"
+  pub advance-refused : (a .number ≡ 0 → ⊥) → (stateOf (a .state) ≡ stateOf state) × (a .speed ≡ 0)
   advance-refused refused =
       let promised = advance-is call in
-      promised .state-is ∙ advance-number (viewOf sheet) bytes (stateOf state) size deadline .1 (λ e. refused (promised .number-is ∙ e))
+      let gives = advance-number (viewOf sheet) bytes (stateOf state) size deadline .1 (λ e. refused (promised .number-is ∙ e)) in
+      (promised .state-is ∙ gives .0, promised .speed-is ∙ gives .1)
 
   -- 18 is never answered: 13 bounds the state's energy
   pub advance-never-18 : a .number ≡ 18 → ⊥
-  unfolding advanceLines speedLines rowLines
+  unfolding advanceLines endingLines rowLines
   advance-never-18 e =
       let s = viewOf sheet in
       let x = stateOf state in
@@ -233,10 +220,12 @@ module _ {state : State} {sheet : Sheet} {bytes : List ℕ} {size deadline : ℕ
       let entry = line 15 (isEntry s size deadline) in
       let queue = line 17 (bearable (M s) (queueOf s next)) in
       let energy = line 18 (leb (next .energy) energyLimit) in
+      let begin = line 16 (beginsRight s bytes next) in
       let fails = advance-answers .tells .refused 18 (omega arith) .0 e in
-      let (passed, fails-after) = later 18 (speedLines s bytes x) (entry ⨾ queue ⨾ energy) ((each-of-sheet _ s _ _ _, _), _) fails in
-      let over = later 18 queue energy _ (later 18 entry (queue ⨾ energy) _ fails-after .1) .1 .0 in
-      let right = speed-accepted s bytes x (all-zero (speedLines s bytes x) passed) in
-      let small = energy-small s (row-accepted s (length bytes) (right .0) .0) x (right .1) byte (byte-on-sheet s x byte (right .2)) in
+      let (passed, fails-after) = later 18 (endingLines s bytes x) (entry ⨾ (queue ⨾ energy) ⨾ begin) ((each-of-sheet _ s _ _ _, _), _) fails in
+      let in-next = earlier 18 (queue ⨾ energy) begin _ (later 18 entry ((queue ⨾ energy) ⨾ begin) _ fails-after .1) in
+      let over = later 18 queue energy _ in-next .1 .0 in
+      let right = ending-accepted s bytes x (all-zero (endingLines s bytes x) passed) in
+      let small = energy-small s (row-accepted s (length bytes) (right .0) .0) x (right .1) byte (byte-on-sheet s x byte (right .3)) in
       let same = ap (λ (y : model-stepper.State). y .energy) (moved-by s x byte size deadline) in
       omega (arith, leb-false (next .energy) energyLimit over, small, same)

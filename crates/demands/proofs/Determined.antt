@@ -23,11 +23,10 @@ use Rattle.listing.specs.Calls.{IsListed}
 use Rattle.listing.specs.declared.call.Listed.{Listed}
 use Rattle.model.specs.Stepper as model-stepper
 use Rattle.model.specs.Width.{narrow}
-use Rattle.stepper.specs.Calls.{stateOf, IsStepped, IsTold}
+use Rattle.stepper.specs.Calls.{stateOf, IsStepped}
 use Rattle.stepper.specs.declared.state.State.{State}
 use Rattle.stepper.specs.declared.state.Stepped.{Stepped}
-use Rattle.stepper.specs.declared.state.Told.{Told}
-use Rattle.demands.specs.Calls.{Reads, Writes, Plans, answered, Rows, Lists, Starts, Speeds, Advances}
+use Rattle.demands.specs.Calls.{Reads, Writes, Plans, answered, Rows, Lists, Starts, Advances}
 
 -- read
 
@@ -162,61 +161,44 @@ state-same e = ap (λ (z : model-stepper.State). record { queue = z .queue; slot
 -- start and advance answer alike
 
 -- two answers of which the model says the same are equal
-same-stepped : {said : model-stepper.Stepped} (a b : Stepped) → IsStepped said (a .number) (a .state) → IsStepped said (b .number) (b .state) → a ≡ b
+same-stepped : {said : model-stepper.Stepped} (a b : Stepped) → IsStepped said (a .number) (a .state) (a .speed) →
+    IsStepped said (b .number) (b .state) (b .speed) → a ≡ b
 same-stepped a b first second =
-    let given : ℕ → model-stepper.State → Stepped =
-    λ n x. record { number = n; state = record { queue = x .queue; slot = x .slot; energy = x .energy } } in
-    ap (λ (n : ℕ). given n (stateOf (a .state))) (first .number-is ∙ sym (second .number-is)) ∙
-    ap (given (b .number)) (first .state-is ∙ sym (second .state-is))
+    let number = first .number-is ∙ sym (second .number-is) in
+    let state = state-same (first .state-is ∙ sym (second .state-is)) in
+    let speed = first .speed-is ∙ sym (second .speed-is) in
+    λ i. record { number = number i; state = state i; speed = speed i }
 
 -- start
 
--- what a start promises of this state and this sheet
-pub start-is : {state : State} {sheet : Sheet} {answer : Stepped} → Starts state sheet answer →
-    IsStepped (model-stepper.start (viewOf sheet) (stateOf state)) (answer .number) (answer .state)
-start-is {state = state} {answer = answer} call =
-    let promised : State → Sheet → Type 0 =
-    λ x s. IsStepped (model-stepper.start (viewOf s) (stateOf x)) (answer .number) (answer .state) in
-    let of-state = subst (λ (x : State). promised x (call .lent .1 .0)) (call .state-started) (call .contract) in
-    subst (λ (s : Sheet). promised state s) (call .sheet-started) of-state
-
--- sheets with equal views and the same state: the same answer
-pub start-determined : {state : State} {s t : Sheet} {a b : Stepped} → viewOf s ≡ viewOf t → Starts state s a → Starts state t b → a ≡ b
-start-determined {state = state} {a = a} {b = b} view first second =
-    same-stepped a b
-    (subst (λ (s : View). IsStepped (model-stepper.start s (stateOf state)) (a .number) (a .state)) view (start-is first)) (start-is second)
-
--- speed
-
--- what a speed call promises of this state, this sheet and this plan
-pub speed-is : {state : State} {sheet : Sheet} {bytes : List ℕ} {answer : Told} → Speeds state sheet bytes answer →
-    IsTold (model-stepper.speed (viewOf sheet) bytes (stateOf state)) (answer .number) (answer .speed)
-speed-is {state = state} {sheet = sheet} {answer = answer} call =
+-- what a start promises of this state, this sheet and this plan
+pub start-is : {state : State} {sheet : Sheet} {bytes : List ℕ} {answer : Stepped} → Starts state sheet bytes answer →
+    IsStepped (model-stepper.start (viewOf sheet) bytes (stateOf state)) (answer .number) (answer .state) (answer .speed)
+start-is {state = state} {sheet = sheet} {answer = answer} call =
     let promised : State → Sheet → List ℕ → Type 0 =
-    λ x s l. IsTold (model-stepper.speed (viewOf s) l (stateOf x)) (answer .number) (answer .speed) in
+    λ x s l. IsStepped (model-stepper.start (viewOf s) l (stateOf x)) (answer .number) (answer .state) (answer .speed) in
     let plan = now (call .lent .1 .1 .0) in
-    let of-state = subst (λ (x : State). promised x (call .lent .1 .0) plan) (call .state-asked) (call .contract) in
-    let of-sheet = subst (λ (s : Sheet). promised state s plan) (call .sheet-told) of-state in
+    let of-state = subst (λ (x : State). promised x (call .lent .1 .0) plan) (call .state-started) (call .contract) in
+    let of-sheet = subst (λ (s : Sheet). promised state s plan) (call .sheet-started) of-state in
     subst (λ (l : List ℕ). promised state sheet l) (call .plan-lent) of-sheet
 
 -- sheets with equal views, the same state and the same plan: the same answer
-pub speed-determined : {state : State} {s t : Sheet} {bytes : List ℕ} {a b : Told} → viewOf s ≡ viewOf t →
-    Speeds state s bytes a → Speeds state t bytes b → a ≡ b
-speed-determined {state = state} {bytes = bytes} {a = a} {b = b} view first second =
-    let one = subst (λ (s : View). IsTold (model-stepper.speed s bytes (stateOf state)) (a .number) (a .speed)) view (speed-is first) in
-    let two = speed-is second in
-    let given : ℕ → ℕ → Told = λ n v. record { number = n; speed = v } in
-    ap (λ (n : ℕ). given n (a .speed)) (one .number-is ∙ sym (two .number-is)) ∙ ap (given (b .number)) (one .speed-is ∙ sym (two .speed-is))
+pub start-determined : {state : State} {s t : Sheet} {bytes : List ℕ} {a b : Stepped} → viewOf s ≡ viewOf t →
+    Starts state s bytes a → Starts state t bytes b → a ≡ b
+start-determined {state = state} {bytes = bytes} {a = a} {b = b} view first second =
+    same-stepped a b
+    (subst (λ (s : View). IsStepped (model-stepper.start s bytes (stateOf state)) (a .number) (a .state) (a .speed)) view (start-is first))
+    (start-is second)
 
 -- advance
 
 -- what an advance promises of this state, this sheet, this plan and this arrival
 pub advance-is : {state : State} {sheet : Sheet} {bytes : List ℕ} {size deadline : ℕ} {answer : Stepped} →
     Advances state sheet bytes size deadline answer →
-    IsStepped (model-stepper.advance (viewOf sheet) bytes (stateOf state) size deadline) (answer .number) (answer .state)
+    IsStepped (model-stepper.advance (viewOf sheet) bytes (stateOf state) size deadline) (answer .number) (answer .state) (answer .speed)
 advance-is {state = state} {sheet = sheet} {bytes = bytes} {size = size} {answer = answer} call =
     let promised : State → Sheet → List ℕ → ℕ → ℕ → Type 0 =
-    λ x s l c d. IsStepped (model-stepper.advance (viewOf s) l (stateOf x) c d) (answer .number) (answer .state) in
+    λ x s l c d. IsStepped (model-stepper.advance (viewOf s) l (stateOf x) c d) (answer .number) (answer .state) (answer .speed) in
     let plan = now (call .lent .1 .1 .0) in
     let arriving = call .lent .1 .1 .1 .0 in
     let due = call .lent .1 .1 .1 .1 .0 in
@@ -231,5 +213,6 @@ pub advance-determined : {state : State} {s t : Sheet} {bytes : List ℕ} {size 
     Advances state s bytes size deadline a → Advances state t bytes size deadline b → a ≡ b
 advance-determined {state = state} {bytes = bytes} {size = size} {deadline = deadline} {a = a} {b = b} view first second =
     same-stepped a b
-    (subst (λ (s : View). IsStepped (model-stepper.advance s bytes (stateOf state) size deadline) (a .number) (a .state)) view (advance-is first))
+    (subst (λ (s : View). IsStepped (model-stepper.advance s bytes (stateOf state) size deadline) (a .number) (a .state) (a .speed)) view
+    (advance-is first))
     (advance-is second)

@@ -7,12 +7,12 @@ use mathlib.Core.Path.{_≡_, sym, ap, _∙_, subst}
 use mathlib.Core.List.{List}
 use mathlib.Core.Logic.{_↔_}
 use mathlib.Core.Option.{Option, none}
-use native.Mathlib.Nat.{le-trans}
+use native.Mathlib.Nat.{le-trans, le-of-lt}
 use native.Mathlib.Omega.{arith}
 use lib.Dec.{T}
 use lib.ListN.{length, getD}
 use Rattle.process.specs.Ways.{Way}
-use Rattle.model.specs.View.{View, viewOf, M}
+use Rattle.model.specs.View.{View, viewOf, sizeAt, deadlineAt, M}
 use Rattle.model.specs.Plan.{placeOfQueue, byteOfQueue, planRefusal}
 use Rattle.model.specs.Queue.{Queue, total, bearable}
 use Rattle.model.specs.Stepper.{planByte}
@@ -21,10 +21,10 @@ use Rattle.model.specs.Width.{narrow, valueIn}
 use Rattle.model.proofs.Queues.{length-totals}
 use Rattle.model.proofs.Refusal.{Ranged, accepted}
 use Rattle.laws.proofs.Rooms.{plan-accepted}
-use Rattle.laws.proofs.Stepper.{speed-by, speed-number, speed-accepted, byte-enough}
+use Rattle.laws.proofs.Stepper.{byte-at, byte-enough, ending-accepted, advance-accepted, advance-number}
 use Rattle.planner.specs.declared.calls.PlanAnswer.{PlanAnswer}
 use Rattle.stepper.specs.Calls.{stateOf}
-use Rattle.stepper.specs.declared.state.State.{State}
+use Rattle.stepper.specs.declared.state.Stepped.{Stepped}
 use Rattle.jobs.specs.InTime.{InTime, IsValueOfPool, IsByteOfPool}
 use Rattle.jobs.specs.Pool.{Pool, dueWithin, queueOfPool, NoneLate, SlotsUpto}
 use Rattle.jobs.specs.Runs.{earliestRun, Finishable}
@@ -34,9 +34,9 @@ use Rattle.jobs.proofs.Runs.{QueuesAlong, along-earliest, ends-on-time}
 use Rattle.jobs.proofs.Ways.{good-in-time, value-of-pool, byte-of-pool}
 use Rattle.demands.specs.Calls.{Plans}
 use Rattle.demands.specs.InTime.{slotAt, firstSlots, poolNow, InTimeAfter}
-use Rattle.demands.specs.Runs.{queueOfState, Begins, stateAfter, queueAfter, Run, NeverRefused}
+use Rattle.demands.specs.Runs.{queueOfState, GoesOn, stateAfter, toldAfter, queueAfter, Run, NeverRefused}
 use Rattle.demands.proofs.Demand2.{value-right, byte-right, none-right}
-use Rattle.demands.proofs.Determined.{speed-is}
+use Rattle.demands.proofs.Determined.{advance-is}
 use Rattle.demands.proofs.Stepping.{never-refused}
 
 module _ {sheet : Sheet} {values₀ plan₀ values bytes : List ℕ} {a : PlanAnswer} (call : Plans sheet values₀ plan₀ a values bytes)
@@ -81,24 +81,29 @@ module _ {sheet : Sheet} {values₀ plan₀ values bytes : List ℕ} {a : PlanAn
           (r, value-of-pool s ranged p slots on-time t r is-value, byte-of-pool s ranged p slots on-time t r _ is-byte)
 
     -- a run from their queue, as in Stepping.antt
-    module _ {from : State} {arrivals : List ℕ} (run : Run sheet bytes from arrivals) (short : from .slot + length arrivals ≤ s .horizon)
-        (entries : (k : ℕ) → k < length arrivals → getD arrivals k 0 < s .jobCount) (begins : Begins sheet from)
-        (their-queue : queueOfPool (s .bound) p ≡ queueOfState sheet from) where
+    module _ {from : Stepped} {arrivals : List ℕ} (run : Run sheet bytes from arrivals)
+        (short : from .state .slot + length arrivals ≤ s .horizon)
+        (entries : (k : ℕ) → k < length arrivals → getD arrivals k 0 < s .jobCount) (goes : GoesOn sheet bytes from)
+        (their-queue : queueOfPool (s .bound) p ≡ queueOfState sheet (from .state)) where
       whole : NeverRefused sheet bytes run
-      whole = never-refused call planned run short entries begins
+      whole = never-refused call planned run short entries goes
 
       -- after k slots
       abbrev queue : ℕ → Queue
       queue k = queueAfter sheet from (run .stepped) k
 
       -- each speed told is at least w(1)
-      enough : (k : ℕ) → k < length arrivals → total (queue k) 1 ≤ run .told k .speed
+      enough : (k : ℕ) → k < length arrivals → total (queue k) 1 ≤ toldAfter from (run .stepped) k
       enough k h =
-          let promised = speed-is (run .speeds k h) in
+          let promised = advance-is (run .advances k h) in
           let x = stateOf (stateAfter from (run .stepped) k) in
-          let zero = sym (speed-number s bytes x .0) ∙ sym (promised .number-is) ∙ whole .steps k h .speed-answers in
-          let told = promised .speed-is ∙ ap (λ r. r .speed) (speed-by s bytes x zero) in
-          omega (arith, told, byte-enough s x (planByte s bytes x) (speed-accepted s bytes x zero .2))
+          let size = sizeAt s (getD arrivals k 0) in
+          let deadline = deadlineAt s (getD arrivals k 0) in
+          let zero = sym (advance-number s bytes x size deadline .0) ∙ sym (promised .number-is) ∙ whole .steps k h .advance-answers in
+          let right = ending-accepted s bytes x (advance-accepted s bytes x size deadline zero .0) .3 in
+          let told = whole .steps k h .speed-is ∙
+          ap (λ (t : ℕ). byteOfQueue s bytes t (queue k)) (sym (whole .stands k (le-of-lt h) .slot-is)) ∙ sym (byte-at s bytes x) in
+          omega (arith, told, byte-enough s x (planByte s bytes x) right)
 
       -- the run's first k slots, and the queues
       along : (k : ℕ) → k ≤ length arrivals → QueuesAlong (s .bound) (slotAt sheet bytes run) queue k

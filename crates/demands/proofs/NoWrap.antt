@@ -1,5 +1,7 @@
--- No count wraps or goes below 0, over the actual contracts of `speed` and `advance`: whatever the plan bytes, where an advance answers 0,
--- each total after it is what the speed left of the one before, or 0, plus what came; and every count has room in its 32 bits.
+-- No count wraps or goes below 0, over the actual contracts of `start` and `advance`: whatever the plan bytes, where an advance answers 0,
+-- each total after it is what the speed told left of the one before, or 0, plus what came; and every count has room in its 32 bits
+-- (`no-count-wraps`). The speed that a start or an advance tells with the state that it gives is the plan's there, on the sheet, and enough
+-- for what is due within one slot (`start-tells`, `advance-tells`); at the horizon it is 255.
 use Prim.Native.Nat.{ℕ, suc, _+_, _*_, _-_, min, _≤_, _<_}
 use mathlib.Core.Path.{_≡_, refl, sym, ap, _∙_, subst}
 use mathlib.Core.Bool.{Bool, true, false, cond}
@@ -11,6 +13,7 @@ use borrow.Author.Tests.{leb-true, leb-false}
 use lib.Dec.{T, leb}
 use lib.ListN.{length}
 use Rattle.model.specs.View.{View, viewOf, energyOf, M}
+use Rattle.model.specs.Plan.{rowRefusal}
 use Rattle.model.specs.Queue.{Queue, total, positions, placesOf, bearable, oneSlot}
 use Rattle.model.specs.Stepper as model
 use Rattle.model.specs.declared.Sheet.{Sheet}
@@ -18,16 +21,15 @@ use Rattle.model.proofs.View.{speed-least, place-of}
 use Rattle.model.proofs.Queues.{length-in, length-slot, length-places, total-places, total-past, total-slot, in-first-places, bearable-upto}
 use Rattle.model.proofs.Refusal.{Ranged, accepted}
 use Rattle.laws.proofs.Rooms.{row-accepted}
-use Rattle.laws.proofs.Stepper.{state-right, speed-by, speed-number, speed-accepted, byte-on-sheet, byte-enough, moved-by, advance-by, advance-number, advance-accepted}
+use Rattle.laws.proofs.Stepper.{state-right, start-by, advance-by, byte-at, byte-on-sheet, byte-enough, begins-at-end, begins-before, start-accepted, ending-accepted, moved-by, advance-accepted, start-number, advance-number}
 use Rattle.laws.proofs.Stepping.{energy-small}
 use Rattle.slot.proofs.Places.{total-in}
 use Rattle.stepper.specs.Calls.{stateOf}
 use Rattle.stepper.specs.declared.state.State.{State}
 use Rattle.stepper.specs.declared.state.Stepped.{Stepped}
-use Rattle.stepper.specs.declared.state.Told.{Told}
-use Rattle.demands.specs.Calls.{Speeds, Advances}
-use Rattle.demands.specs.NoWrap.{work, IsLeft, IsAdded, IsCarried, SpeedEnough, NoneWraps}
-use Rattle.demands.proofs.Determined.{state-same, speed-is, advance-is}
+use Rattle.demands.specs.Calls.{Starts, Advances}
+use Rattle.demands.specs.NoWrap.{work, IsLeft, IsAdded, IsCarried, SpeedEnough, SpeedTold, NoneWraps}
+use Rattle.demands.proofs.Determined.{state-same, start-is, advance-is}
 
 -- in numbers
 
@@ -59,39 +61,34 @@ module _ (sheet : Sheet) (bytes : List ℕ) (x : State) where
   abbrev byte : ℕ
   byte = model.planByte s bytes before
 
-  module _ (quiet : model.speedRefusal s bytes before ≡ 0) where
-    -- where a speed call is not refused, the sheet keeps every range
-    ranges : Ranged s
-    ranges = accepted s (row-accepted s (length bytes) (speed-accepted s bytes before quiet .0) .0) .ranged
-
-    -- and the plan byte is a sheet speed and at least w(1)
-    byte-right : SpeedEnough sheet x byte
-    byte-right =
-        let right = speed-accepted s bytes before quiet .2 in
-        record {
-          on-sheet = byte-on-sheet s before byte right;
-          enough = omega (arith, byte-enough s before byte right, total-in (s .bound) (x .queue) 1 (ranges .bound-low));
-        }
-
-    -- it is what is told
-    told-byte : {b : Told} → Speeds x sheet bytes b → (b .number ≡ 0) × (b .speed ≡ byte)
-    told-byte call =
-        let promised = speed-is call in
-        let law = speed-by s bytes before quiet in (
-          promised .number-is ∙ ap (λ (r : model.Told). r .number) law,
-          promised .speed-is ∙ ap (λ (r : model.Told). r .speed) law,
-        )
-
-  -- speed: where it answers 0, a sheet speed that is at least w(1)
-  pub speed-enough : {b : Told} → Speeds x sheet bytes b → b .number ≡ 0 → SpeedEnough sheet x (b .speed)
-  speed-enough call e =
-      let quiet = sym (speed-number s bytes before .0) ∙ sym (speed-is call .number-is) ∙ e in
-      subst (SpeedEnough sheet x) (sym (told-byte quiet call .1)) (byte-right quiet)
+  -- where the plan byte passes 16, or the state is at the horizon, the speed of the slot that begins there
+  told-so : Ranged s → T (model.beginsRight s bytes before) → SpeedTold sheet bytes x (model.speedNow s bytes before)
+  told-so ranges right =
+      record {
+        planned = λ h. now h .0 ∙ byte-at s bytes before;
+        is-enough = λ h.
+            let passes = subst T (now h .1) right in
+            subst (SpeedEnough sheet x) (sym (now h .0))
+            (record {
+              on-sheet = byte-on-sheet s before byte passes;
+              enough = omega (arith, byte-enough s before byte passes, total-in (s .bound) (x .queue) 1 (ranges .bound-low));
+            });
+        at-end = λ last. begins-at-end s bytes before last .0;
+      }
+    where
+      now : x .slot < s .horizon →
+          (model.speedNow s bytes before ≡ byte) × (model.beginsRight s bytes before ≡ model.byteRight s before byte)
+      now h = begins-before s bytes before (λ q. omega arith)
 
   -- an advance by the arrival that is not refused, from a state whose queue stands in six places, which is what the machine gives
   module _ (size deadline : ℕ) (six : length (x .queue) ≡ positions) (zero : model.advanceRefusal s bytes before size deadline ≡ 0) where
-    quiet-speed : model.speedRefusal s bytes before ≡ 0
-    quiet-speed = advance-accepted s bytes before size deadline zero .0
+    -- no test of the slot that ends fails
+    ending : (rowRefusal s (length bytes) ≡ 0) × T (model.stateRight s before) × (x .slot < s .horizon) × T (model.byteRight s before byte)
+    ending = ending-accepted s bytes before (advance-accepted s bytes before size deadline zero .0)
+
+    -- so the sheet keeps every range
+    ranges : Ranged s
+    ranges = accepted s (row-accepted s (length bytes) (ending .0) .0) .ranged
 
     -- w(1) to w(D), and what the slot and the arrival make of it
     abbrev queue : Queue
@@ -101,7 +98,7 @@ module _ (sheet : Sheet) (bytes : List ℕ) (x : State) where
     next = oneSlot queue byte size deadline
 
     few : s .bound ≤ 6
-    few = ranges quiet-speed .bound-high
+    few = ranges .bound-high
 
     long : length queue ≡ s .bound
     long = length-in (s .bound) (x .queue) (omega (arith, six, few))
@@ -146,7 +143,7 @@ module _ (sheet : Sheet) (bytes : List ℕ) (x : State) where
     small u = go (leb u (s .bound)) refl
       where
         slow : M s ≤ 8
-        slow = speed-least s 8 (λ a on. let (j, l, at) = place-of s a on in omega (arith, ranges quiet-speed .speed-high j l, at))
+        slow = speed-least s 8 (λ a on. let (j, l, at) = place-of s a on in omega (arith, ranges .speed-high j l, at))
 
         go : (b : Bool) → leb u (s .bound) ≡ b → total (placesOf next) u ≤ 48
         go true e =
@@ -158,12 +155,11 @@ module _ (sheet : Sheet) (bytes : List ℕ) (x : State) where
     -- what the model says of the counts
     said : NoneWraps sheet x byte size deadline (record { queue = placesOf next; slot = suc (x .slot); energy = x .energy + energyOf s byte })
     said =
-        let right = speed-accepted s bytes before quiet-speed in
-        let upto = state-right s before (right .1) in
-        let room = energy-small s (row-accepted s (length bytes) (right .0) .0) before (right .1) byte (byte-on-sheet s before byte (right .2)) in
+        let upto = state-right s before (ending .1) in
+        let room = energy-small s (row-accepted s (length bytes) (ending .0) .0) before (ending .1) byte (byte-on-sheet s before byte (ending .3)) in
         record {
           carried = λ u low h. from-place u (suc u) low (le-of-lt h) h (omega arith);
-          carried-last = from-place (s .bound) (s .bound) (ranges quiet-speed .bound-low) (le-refl _) (le-refl _) (omega arith);
+          carried-last = from-place (s .bound) (s .bound) (ranges .bound-low) (le-refl _) (le-refl _) (omega arith);
           finishable = upto-M;
           unused = past-zero;
           slot-is = refl;
@@ -171,24 +167,58 @@ module _ (sheet : Sheet) (bytes : List ℕ) (x : State) where
           fits =
               record {
                 work-fits = λ u. omega (arith, small u);
-                slot-fits = omega (arith, upto .1, ranges quiet-speed .horizon-high);
+                slot-fits = omega (arith, upto .1, ranges .horizon-high);
                 energy-fits = omega (arith, room);
               };
         }
 
-  -- advance: where it answers 0, the speed told is a sheet speed and at least w(1), and no count wraps
-  pub no-count-wraps : {size deadline : ℕ} {told : Told} {b : Stepped} → length (x .queue) ≡ positions → Speeds x sheet bytes told →
-      Advances x sheet bytes size deadline b → b .number ≡ 0 →
-      (told .number ≡ 0) × SpeedEnough sheet x (told .speed) × NoneWraps sheet x (told .speed) size deadline (b .state)
-  no-count-wraps {size} {deadline} {told} {b} six asked call e =
-      let promised = advance-is call in
-      let zero = sym (advance-number s bytes before size deadline .0) ∙ sym (promised .number-is) ∙ e in
-      let quiet = quiet-speed size deadline six zero in
-      let tells = told-byte quiet asked in
-      let moved = promised .state-is ∙ ap (λ (r : model.Stepped). r .state) (advance-by s bytes before size deadline zero) ∙
+  -- an advance that answers 0 refuses nothing
+  quiet : {size deadline : ℕ} {b : Stepped} → Advances x sheet bytes size deadline b → b .number ≡ 0 →
+      model.advanceRefusal s bytes before size deadline ≡ 0
+  quiet {size} {deadline} call e = sym (advance-number s bytes before size deadline .0) ∙ sym (advance-is call .number-is) ∙ e
+
+  -- advance: where it answers 0, the speed that was told with the state is a sheet speed and at least w(1), and no count wraps
+  pub no-count-wraps : {size deadline told : ℕ} {b : Stepped} → length (x .queue) ≡ positions → SpeedTold sheet bytes x told →
+      Advances x sheet bytes size deadline b → b .number ≡ 0 → SpeedEnough sheet x told × NoneWraps sheet x told size deadline (b .state)
+  no-count-wraps {size} {deadline} {told} {b} six tells call e =
+      let zero = quiet call e in
+      let not-last = ending size deadline six zero .2 in
+      let told-byte = tells .planned not-last ∙ sym (byte-at s bytes before) in
+      let moved = advance-is call .state-is ∙ ap (λ (r : model.Stepped). r .state) (advance-by s bytes before size deadline zero) ∙
       moved-by s before byte size deadline in (
-        tells .0,
-        speed-enough asked (tells .0),
-        subst (λ (speed : ℕ). NoneWraps sheet x speed size deadline (b .state)) (sym (tells .1))
+        tells .is-enough not-last,
+        subst (λ (speed : ℕ). NoneWraps sheet x speed size deadline (b .state)) (sym told-byte)
             (subst (NoneWraps sheet x byte size deadline) (sym (state-same moved)) (said size deadline six zero)),
       )
+
+  -- the speed told with a state that a call gave, where the model says which
+  told-with : Ranged s → {given : model.State} {speed : ℕ} → before ≡ given → speed ≡ model.speedNow s bytes given →
+      T (model.beginsRight s bytes given) → SpeedTold sheet bytes x speed
+  told-with ranges e speed-is right =
+      subst (SpeedTold sheet bytes x) (sym (speed-is ∙ ap (model.speedNow s bytes) (sym e)))
+      (told-so ranges (subst (λ (y : model.State). T (model.beginsRight s bytes y)) (sym e) right))
+
+-- start: where it answers 0, the speed told with the state that it gives
+pub start-tells : {sheet : Sheet} {bytes : List ℕ} {x : State} {b : Stepped} → Starts x sheet bytes b → b .number ≡ 0 →
+    SpeedTold sheet bytes (b .state) (b .speed)
+start-tells {sheet} {bytes} {x} {b} call e =
+    let s = viewOf sheet in
+    let promised = start-is call in
+    let zero = sym (start-number s bytes (stateOf x) .0) ∙ sym (promised .number-is) ∙ e in
+    let (room, _, right) = start-accepted s bytes (stateOf x) zero in
+    let law = start-by s bytes (stateOf x) zero in
+    told-with sheet bytes (b .state) (accepted s (row-accepted s (length bytes) room .0) .ranged)
+    (promised .state-is ∙ ap (λ (r : model.Stepped). r .state) law) (promised .speed-is ∙ ap (λ (r : model.Stepped). r .speed) law) right
+
+-- advance: likewise
+pub advance-tells : {sheet : Sheet} {bytes : List ℕ} {x : State} {size deadline : ℕ} {b : Stepped} → Advances x sheet bytes size deadline b →
+    b .number ≡ 0 → SpeedTold sheet bytes (b .state) (b .speed)
+advance-tells {sheet} {bytes} {x} {size} {deadline} {b} call e =
+    let s = viewOf sheet in
+    let promised = advance-is call in
+    let zero = quiet sheet bytes x call e in
+    let (ended, _, right) = advance-accepted s bytes (stateOf x) size deadline zero in
+    let room = ending-accepted s bytes (stateOf x) ended .0 in
+    let law = advance-by s bytes (stateOf x) size deadline zero in
+    told-with sheet bytes (b .state) (accepted s (row-accepted s (length bytes) room .0) .ranged)
+    (promised .state-is ∙ ap (λ (r : model.Stepped). r .state) law) (promised .speed-is ∙ ap (λ (r : model.Stepped). r .speed) law) right

@@ -30,11 +30,8 @@ use Rattle.listing.proofs.list.Kinds as list-kinds
 use Rattle.listing.proofs.list.Reads as list
 use Rattle.stepper.specs.declared.state.State.{State}
 use Rattle.stepper.specs.declared.state.Stepped.{Stepped}
-use Rattle.stepper.specs.declared.state.Told.{Told}
 use Rattle.stepper.proofs.state.State.start.Kinds as start-kinds
 use Rattle.stepper.proofs.state.State.start.Reads as start
-use Rattle.stepper.proofs.state.State.speed.Kinds as speed-kinds
-use Rattle.stepper.proofs.state.State.speed.Reads as speed
 use Rattle.stepper.proofs.state.State.advance.Kinds as advance-kinds
 use Rattle.stepper.proofs.state.State.advance.Reads as advance
 
@@ -105,24 +102,15 @@ pub record Lists (sheet : Sheet) (least : ℕ) (bytes before : List ℕ) (answer
   pub after-is : now (at-exit .1 .1 .1 .0) ≡ after
   pub contract : list.Post lifetimes lent answer at-exit
 
--- `start` of this state was given this sheet; it answered this
-pub record Starts (state : State) (sheet : Sheet) (answer : Stepped) : Type 0 where
-  pub lifetimes : Lfts 0
+-- `start` of this state was given this sheet and lent this plan; it answered this
+pub record Starts (state : State) (sheet : Sheet) (bytes : List ℕ) (answer : Stepped) : Type 0 where
+  pub lifetimes : Lfts 1
   pub lent : Dens lifetimes start-kinds.ps
-  pub at-exit : AtExit (endedOf 0 start-kinds.ps start-kinds.r) lifetimes
+  pub at-exit : AtExit (endedOf 1 start-kinds.ps start-kinds.r) lifetimes
   pub state-started : lent .0 ≡ state
   pub sheet-started : lent .1 .0 ≡ sheet
-  pub contract : start.Post lifetimes lent answer at-exit
-
--- `speed` of this state was given this sheet and lent this plan; it answered this
-pub record Speeds (state : State) (sheet : Sheet) (bytes : List ℕ) (answer : Told) : Type 0 where
-  pub lifetimes : Lfts 1
-  pub lent : Dens lifetimes speed-kinds.ps
-  pub at-exit : AtExit (endedOf 1 speed-kinds.ps speed-kinds.r) lifetimes
-  pub state-asked : lent .0 ≡ state
-  pub sheet-told : lent .1 .0 ≡ sheet
   pub plan-lent : now (lent .1 .1 .0) ≡ bytes
-  pub contract : speed.Post lifetimes lent answer at-exit
+  pub contract : start.Post lifetimes lent answer at-exit
 
 -- `advance` of this state was given this sheet, lent this plan and told of this arrival; it answered this
 pub record Advances (state : State) (sheet : Sheet) (bytes : List ℕ) (size deadline : ℕ) (answer : Stepped) : Type 0 where

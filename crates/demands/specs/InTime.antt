@@ -11,13 +11,13 @@ use Rattle.jobs.specs.Given.{EachJob, ByDeadline}
 use Rattle.jobs.specs.InTime.{slotOf}
 use Rattle.jobs.specs.Pool.{Pool, queueOfPool}
 use Rattle.jobs.specs.Runs.{Slot, poolAfter, earliestRun, EarliestFirst, Finishable}
-use Rattle.stepper.specs.declared.state.State.{State}
-use Rattle.demands.specs.Runs.{queueAfter, Run}
+use Rattle.stepper.specs.declared.state.Stepped.{Stepped}
+use Rattle.demands.specs.Runs.{toldAfter, queueAfter, Run}
 
-module _ (sheet : Sheet) (bytes : List ℕ) {from : State} {arrivals : List ℕ} (run : Run sheet bytes from arrivals) where
+module _ (sheet : Sheet) (bytes : List ℕ) {from : Stepped} {arrivals : List ℕ} (run : Run sheet bytes from arrivals) where
   -- the slot that follows k slots: the speed told, and then the arrival
   abbrev pub slotAt : ℕ → Slot
-  slotAt k = slotOf (viewOf sheet) (run .told k .speed) (getD arrivals k 0)
+  slotAt k = slotOf (viewOf sheet) (toldAfter from (run .stepped) k) (getD arrivals k 0)
 
   -- the run's first k slots
   abbrev pub firstSlots : ℕ → List Slot

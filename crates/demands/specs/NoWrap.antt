@@ -2,12 +2,15 @@
 -- governor that Harzschale replaces kept its waiting work in a signed byte, and read a backlog of 130 as minus 126.
 use Prim.Native.Nat.{ℕ, suc, _+_, _*_, _≤_, _<_}
 use mathlib.Core.Path.{_≡_}
+use mathlib.Core.List.{List}
 use mathlib.Core.Logic.{_⊎_}
 use lib.Dec.{T}
 use Rattle.model.specs.View.{viewOf, onSheet, energyOf, M}
+use Rattle.model.specs.Plan.{noSpeed, byteOfQueue}
 use Rattle.model.specs.Queue.{total}
 use Rattle.model.specs.declared.Sheet.{Sheet}
 use Rattle.stepper.specs.declared.state.State.{State}
+use Rattle.demands.specs.Runs.{queueOfState}
 
 -- w(u) as it stands in a state
 abbrev pub work : State → ℕ → ℕ
@@ -36,10 +39,16 @@ pub record Fits (x : State) : Type 0 where
   pub slot-fits : x .slot < 4294967296
   pub energy-fits : x .energy < 4294967296
 
--- a speed that is answered in a state is on the sheet, and enough for what is due within one slot
+-- a speed that is on the sheet, and enough for what is due within one slot
 pub record SpeedEnough (sheet : Sheet) (x : State) (speed : ℕ) : Type 0 where
   pub on-sheet : T (onSheet (viewOf sheet) speed)
   pub enough : work x 1 ≤ speed
+
+-- the speed that is told with a state: the plan's for its slot and queue, which is enough; 255 at the horizon
+pub record SpeedTold (sheet : Sheet) (bytes : List ℕ) (x : State) (speed : ℕ) : Type 0 where
+  pub planned : x .slot < viewOf sheet .horizon → speed ≡ byteOfQueue (viewOf sheet) bytes (x .slot) (queueOfState sheet x)
+  pub is-enough : x .slot < viewOf sheet .horizon → SpeedEnough sheet x speed
+  pub at-end : x .slot ≡ viewOf sheet .horizon → speed ≡ noSpeed
 
 -- what a slot at this speed and then this arrival make of the counts of `before`
 pub record NoneWraps (sheet : Sheet) (before : State) (speed size deadline : ℕ) (after : State) : Type 0 where

@@ -1,66 +1,37 @@
 -- Laws of the stepper's definitions (the model's Stepper.antt): what each call answers by its number, and its number by the tests that pass
 -- and the one that fails. The stepper's proofs, and those of stepping, cite these, and not the definitions.
 use Prim.Native.Nat.{ℕ, suc, _+_, _*_, _≤_, _<_}
-use mathlib.Core.Path.{_≡_, refl, sym, ap, _∙_}
-use mathlib.Core.Bool.{Bool, true, false, cond, not, _&&_}
+use mathlib.Core.Path.{_≡_, refl, sym, ap, subst, _∙_}
+use mathlib.Core.Bool.{Bool, true, false, cond, not, _&&_, _||_}
 use mathlib.Core.List.{List}
+use native.Mathlib.Omega.{arith}
 use borrow.Author.Tests.{le-leb, lt-leb, eq-eqb, ne-eqb}
-use lib.Dec.{T, leb, eqb, leb→le, eqb-refl}
+use lib.Dec.{T, T-not, leb, eqb, leb→le, eqb-refl}
 use lib.ListN.{length, getD}
 use Rattle.model.specs.View.{View, sizeAt, deadlineAt, onSheet, energyOf, greatestEnergy, M}
-use Rattle.model.specs.Plan.{placeOfQueue, rowRefusal}
+use Rattle.model.specs.Plan.{placeOfQueue, noSpeed, rowRefusal}
 use Rattle.model.specs.Queue.{total, placesOf, bearable, oneSlot}
-use Rattle.model.specs.Refusal.{sheetRefusal, valueLimit}
-use Rattle.model.specs.Stepper.{State, queueOf, queueRight, stateRight, zeroState, startRefusal, startLines, start, planByte, byteRight, speedRefusal, speedLines, speed, isEntryAt, isEntry, moved, nextRefusal, advanceRefusal, advanceLines, advance}
+use Rattle.model.specs.Stepper.{State, queueOf, queueRight, stateRight, zeroState, begun, planByte, byteRight, speedNow, beginsRight, steppedBy, startRefusal, startLines, start, endingRefusal, endingLines, isEntryAt, isEntry, moved, nextRefusal, advanceRefusal, advanceLines, advance}
 use Rattle.model.specs.Tests.{check, _then_}
 use Rattle.model.proofs.Tests.{anywhere-one, and-both, and-left, and-right, and-fails-right, check-zero, check-true, check-false, then-left, then-right, then-on, then-passes, then-fails, then-stops}
 
 module _ (s : View) where
-  -- start
+  -- what both calls answer, by their number
 
-  -- what it answers, by its number
-  pub start-by : (x : State) {number : ℕ} → startRefusal s x ≡ number →
-      start s x ≡
-      record { number = number; state = cond (eqb number 0) (record { queue = x .queue; slot = 0; energy = 0 }) zeroState }
+  -- a start
+  pub start-by : (plan : List ℕ) (x : State) {number : ℕ} → startRefusal s plan x ≡ number →
+      start s plan x ≡ steppedBy number (begun x) (speedNow s plan (begun x)) zeroState
   unfolding start
-  start-by x e = λ i. record { number = e i; state = cond (eqb (e i) 0) (record { queue = x .queue; slot = 0; energy = 0 }) zeroState }
+  start-by plan x e = ap (λ (n : ℕ). steppedBy n (begun x) (speedNow s plan (begun x)) zeroState) e
 
-  -- it refuses a sheet that is refused, with the sheet's number
-  pub start-refusal-sheet : (x : State) {number : ℕ} → number ≡ sheetRefusal valueLimit s → (number ≡ 0 → ⊥) → startRefusal s x ≡ number
-  unfolding startLines
-  start-refusal-sheet x {number = number} e some = rw (← e) (then-stops number _ some)
-
-  -- and 13 where the queue is not right
-  pub start-refusal-13 : (x : State) → sheetRefusal valueLimit s ≡ 0 → queueRight s x ≡ false → startRefusal s x ≡ 13
-  unfolding startLines
-  start-refusal-13 x e wrong = then-on (sheetRefusal valueLimit s) _ e ∙ check-false (queueRight s x) 13 wrong
-
-  -- and 0 otherwise
-  pub start-refusal-0 : (x : State) → sheetRefusal valueLimit s ≡ 0 → queueRight s x ≡ true → startRefusal s x ≡ 0
-  unfolding startLines
-  start-refusal-0 x e right = then-on (sheetRefusal valueLimit s) _ e ∙ check-true (queueRight s x) 13 right
-
-  -- 4 to 10 and 11 are the row call's tests
-  speed-in-parts : (plan : List ℕ) (x : State) →
-      speedRefusal s plan x ≡
-      rowRefusal s (length plan) then
-      (check (stateRight s x) 13 then (check (not (eqb (x .slot) (s .horizon))) 14 then check (byteRight s x (planByte s plan x)) 16))
-  unfolding speedLines
-  speed-in-parts plan x = refl
-
-  -- a speed is told by its number
-  pub speed-by : (plan : List ℕ) (x : State) {number : ℕ} → speedRefusal s plan x ≡ number →
-      speed s plan x ≡ record { number = number; speed = cond (eqb number 0) (planByte s plan x) 0 }
-  unfolding speed
-  speed-by plan x e = λ i. record { number = e i; speed = cond (eqb (e i) 0) (planByte s plan x) 0 }
-
-  -- and so is a step
+  -- an advance
   pub advance-by : (plan : List ℕ) (x : State) (size deadline : ℕ) {number : ℕ} → advanceRefusal s plan x size deadline ≡ number →
-      advance s plan x size deadline ≡
-      record { number = number; state = cond (eqb number 0) (moved s x (planByte s plan x) size deadline) x }
+      let next = moved s x (planByte s plan x) size deadline in
+      advance s plan x size deadline ≡ steppedBy number next (speedNow s plan next) x
   unfolding advance
   advance-by plan x size deadline e =
-      λ i. record { number = e i; state = cond (eqb (e i) 0) (moved s x (planByte s plan x) size deadline) x }
+      let next = moved s x (planByte s plan x) size deadline in
+      ap (λ (n : ℕ). steppedBy n next (speedNow s plan next) x) e
 
   -- what 13 tests, as facts
   pub state-right : (x : State) → T (stateRight s x) →
@@ -97,50 +68,7 @@ module _ (s : View) where
       ap (λ (b : Bool). b && leb (x .slot) (s .horizon) && leb (x .energy) (x .slot * greatestEnergy s)) e ∙
       ap (λ (b : Bool). b && leb (x .energy) (x .slot * greatestEnergy s)) (le-leb (x .slot) (s .horizon) h)
 
-  -- speed
-
-  -- it refuses what the row call refuses
-  pub speed-refusal-row : (plan : List ℕ) (x : State) {number : ℕ} → number ≡ rowRefusal s (length plan) → (number ≡ 0 → ⊥) →
-      speedRefusal s plan x ≡ number
-  speed-refusal-row plan x {number = number} e some = speed-in-parts plan x ∙ rw (← e) (then-stops number _ some)
-
-  -- what is left where the row call refuses nothing
-  after-row : (plan : List ℕ) (x : State) → rowRefusal s (length plan) ≡ 0 →
-      speedRefusal s plan x ≡
-      check (stateRight s x) 13 then (check (not (eqb (x .slot) (s .horizon))) 14 then check (byteRight s x (planByte s plan x)) 16)
-  after-row plan x e = speed-in-parts plan x ∙ then-on (rowRefusal s (length plan)) _ e
-
-  -- then 13, where the state is not right
-  pub speed-refusal-13 : (plan : List ℕ) (x : State) → rowRefusal s (length plan) ≡ 0 → stateRight s x ≡ false → speedRefusal s plan x ≡ 13
-  speed-refusal-13 plan x e wrong = after-row plan x e ∙ then-fails (stateRight s x) 12 _ wrong
-
-  -- then 14, at the horizon
-  pub speed-refusal-14 : (plan : List ℕ) (x : State) → rowRefusal s (length plan) ≡ 0 → stateRight s x ≡ true → x .slot ≡ s .horizon →
-      speedRefusal s plan x ≡ 14
-  speed-refusal-14 plan x e right last =
-      after-row plan x e ∙ then-passes (stateRight s x) 13 _ right ∙
-      then-fails (not (eqb (x .slot) (s .horizon))) 13 _ (ap not (eq-eqb (x .slot) (s .horizon) last))
-
-  -- before the horizon the plan byte decides
-  pub speed-refusal-16-or-0 : (plan : List ℕ) (x : State) → rowRefusal s (length plan) ≡ 0 → stateRight s x ≡ true → (x .slot ≡ s .horizon → ⊥) →
-      speedRefusal s plan x ≡ check (byteRight s x (planByte s plan x)) 16
-  speed-refusal-16-or-0 plan x e right before =
-      after-row plan x e ∙ then-passes (stateRight s x) 13 _ right ∙
-      then-passes (not (eqb (x .slot) (s .horizon))) 14 _ (ap not (ne-eqb (x .slot) (s .horizon) before))
-
-  -- what a speed call that is not refused has: room for the plan, a right state before the horizon, and a right plan byte
-  pub speed-accepted : (plan : List ℕ) (x : State) → speedRefusal s plan x ≡ 0 →
-      (rowRefusal s (length plan) ≡ 0) × T (stateRight s x) × T (byteRight s x (planByte s plan x))
-  speed-accepted plan x e =
-      let whole = sym (speed-in-parts plan x) ∙ e in
-      let row = rowRefusal s (length plan) in
-      let state = then-right row _ whole in
-      let slot = then-right (check (stateRight s x) 13) _ state in
-      let byte = then-right (check (not (eqb (x .slot) (s .horizon))) 14) _ slot in (
-        then-left row _ whole,
-        check-zero (stateRight s x) 12 (then-left (check (stateRight s x) 13) _ state),
-        check-zero (byteRight s x (planByte s plan x)) 15 byte,
-      )
+  -- a plan byte
 
   -- the plan byte, by its place
   pub byte-at : (plan : List ℕ) (x : State) → planByte s plan x ≡ getD plan (placeOfQueue s (x .slot) (queueOf s x)) 0
@@ -167,6 +95,121 @@ module _ (s : View) where
   unfolding byteRight
   byte-enough x byte t = leb→le (total (queueOf s x) 1) byte (and-right (onSheet s byte) _ t)
 
+  -- the slot that begins
+
+  -- at the horizon: 255, and 16 is not asked
+  pub begins-at-end : (plan : List ℕ) (x : State) → x .slot ≡ s .horizon → (speedNow s plan x ≡ noSpeed) × (beginsRight s plan x ≡ true)
+  unfolding speedNow beginsRight
+  begins-at-end plan x last =
+      let at-end = eq-eqb (x .slot) (s .horizon) last in (
+        ap (λ (b : Bool). cond b noSpeed (planByte s plan x)) at-end,
+        ap (λ (b : Bool). b || byteRight s x (planByte s plan x)) at-end,
+      )
+
+  -- before it: the plan byte, of which 16 asks
+  pub begins-before : (plan : List ℕ) (x : State) → (x .slot ≡ s .horizon → ⊥) →
+      (speedNow s plan x ≡ planByte s plan x) × (beginsRight s plan x ≡ byteRight s x (planByte s plan x))
+  unfolding speedNow beginsRight
+  begins-before plan x before =
+      let not-yet = ne-eqb (x .slot) (s .horizon) before in (
+        ap (λ (b : Bool). cond b noSpeed (planByte s plan x)) not-yet,
+        ap (λ (b : Bool). b || byteRight s x (planByte s plan x)) not-yet,
+      )
+
+  -- start
+
+  start-in-parts : (plan : List ℕ) (x : State) →
+      startRefusal s plan x ≡
+      rowRefusal s (length plan) then (check (queueRight s x) 13 then check (beginsRight s plan (begun x)) 16)
+  unfolding startLines
+  start-in-parts plan x = refl
+
+  -- it refuses what the row call refuses
+  pub start-refusal-row : (plan : List ℕ) (x : State) {number : ℕ} → number ≡ rowRefusal s (length plan) → (number ≡ 0 → ⊥) →
+      startRefusal s plan x ≡ number
+  start-refusal-row plan x {number = number} e some = start-in-parts plan x ∙ rw (← e) (then-stops number _ some)
+
+  -- then 13, where the queue is not right
+  pub start-refusal-13 : (plan : List ℕ) (x : State) → rowRefusal s (length plan) ≡ 0 → queueRight s x ≡ false → startRefusal s plan x ≡ 13
+  start-refusal-13 plan x e wrong =
+      start-in-parts plan x ∙ then-on (rowRefusal s (length plan)) _ e ∙ then-fails (queueRight s x) 12 _ wrong
+
+  -- and the plan byte of slot 0 decides otherwise
+  pub start-refusal-begins : (plan : List ℕ) (x : State) → rowRefusal s (length plan) ≡ 0 → queueRight s x ≡ true →
+      startRefusal s plan x ≡ check (beginsRight s plan (begun x)) 16
+  start-refusal-begins plan x e right =
+      start-in-parts plan x ∙ then-on (rowRefusal s (length plan)) _ e ∙ then-passes (queueRight s x) 13 _ right
+
+  -- what a start that is not refused has: room for the plan, a right queue, and a right plan byte
+  pub start-accepted : (plan : List ℕ) (x : State) → startRefusal s plan x ≡ 0 →
+      (rowRefusal s (length plan) ≡ 0) × T (queueRight s x) × T (beginsRight s plan (begun x))
+  start-accepted plan x e =
+      let whole = sym (start-in-parts plan x) ∙ e in
+      let row = rowRefusal s (length plan) in
+      let queue = then-right row _ whole in (
+        then-left row _ whole,
+        check-zero (queueRight s x) 12 (then-left (check (queueRight s x) 13) _ queue),
+        check-zero (beginsRight s plan (begun x)) 15 (then-right (check (queueRight s x) 13) _ queue),
+      )
+
+  -- the slot that ends
+
+  -- 4 to 10 and 11 are the row call's tests
+  ending-in-parts : (plan : List ℕ) (x : State) →
+      endingRefusal s plan x ≡
+      rowRefusal s (length plan) then
+      (check (stateRight s x) 13 then (check (not (eqb (x .slot) (s .horizon))) 14 then check (byteRight s x (planByte s plan x)) 16))
+  unfolding endingLines
+  ending-in-parts plan x = refl
+
+  -- it refuses what the row call refuses
+  pub ending-refusal-row : (plan : List ℕ) (x : State) {number : ℕ} → number ≡ rowRefusal s (length plan) → (number ≡ 0 → ⊥) →
+      endingRefusal s plan x ≡ number
+  ending-refusal-row plan x {number = number} e some = ending-in-parts plan x ∙ rw (← e) (then-stops number _ some)
+
+  -- what is left where the row call refuses nothing
+  after-row : (plan : List ℕ) (x : State) → rowRefusal s (length plan) ≡ 0 →
+      endingRefusal s plan x ≡
+      check (stateRight s x) 13 then (check (not (eqb (x .slot) (s .horizon))) 14 then check (byteRight s x (planByte s plan x)) 16)
+  after-row plan x e = ending-in-parts plan x ∙ then-on (rowRefusal s (length plan)) _ e
+
+  -- then 13, where the state is not right
+  pub ending-refusal-13 : (plan : List ℕ) (x : State) → rowRefusal s (length plan) ≡ 0 → stateRight s x ≡ false → endingRefusal s plan x ≡ 13
+  ending-refusal-13 plan x e wrong = after-row plan x e ∙ then-fails (stateRight s x) 12 _ wrong
+
+  -- then 14, at the horizon
+  pub ending-refusal-14 : (plan : List ℕ) (x : State) → rowRefusal s (length plan) ≡ 0 → stateRight s x ≡ true → x .slot ≡ s .horizon →
+      endingRefusal s plan x ≡ 14
+  ending-refusal-14 plan x e right last =
+      after-row plan x e ∙ then-passes (stateRight s x) 13 _ right ∙
+      then-fails (not (eqb (x .slot) (s .horizon))) 13 _ (ap not (eq-eqb (x .slot) (s .horizon) last))
+
+  -- before the horizon the plan byte decides
+  pub ending-refusal-16-or-0 : (plan : List ℕ) (x : State) → rowRefusal s (length plan) ≡ 0 → stateRight s x ≡ true → (x .slot ≡ s .horizon → ⊥) →
+      endingRefusal s plan x ≡ check (byteRight s x (planByte s plan x)) 16
+  ending-refusal-16-or-0 plan x e right before =
+      after-row plan x e ∙ then-passes (stateRight s x) 13 _ right ∙
+      then-passes (not (eqb (x .slot) (s .horizon))) 14 _ (ap not (ne-eqb (x .slot) (s .horizon) before))
+
+  -- where none of its tests fails: room for the plan, a right state before the horizon, and a right plan byte
+  pub ending-accepted : (plan : List ℕ) (x : State) → endingRefusal s plan x ≡ 0 →
+      (rowRefusal s (length plan) ≡ 0) × T (stateRight s x) × (x .slot < s .horizon) × T (byteRight s x (planByte s plan x))
+  ending-accepted plan x e =
+      let whole = sym (ending-in-parts plan x) ∙ e in
+      let row = rowRefusal s (length plan) in
+      let state = then-right row _ whole in
+      let slot = then-right (check (stateRight s x) 13) _ state in
+      let byte = then-right (check (not (eqb (x .slot) (s .horizon))) 14) _ slot in
+      let right = check-zero (stateRight s x) 12 (then-left (check (stateRight s x) 13) _ state) in
+      let not-last = check-zero (not (eqb (x .slot) (s .horizon))) 13 (then-left (check (not (eqb (x .slot) (s .horizon))) 14) _ slot) in
+      let apart : x .slot ≡ s .horizon → ⊥ =
+      λ q. T-not (eqb (x .slot) (s .horizon)) not-last (subst T (sym (eq-eqb (x .slot) (s .horizon) q)) tt) in (
+        then-left row _ whole,
+        right,
+        omega (arith, state-right x right .1, apart),
+        check-zero (byteRight s x (planByte s plan x)) 15 byte,
+      )
+
   -- advance
 
   -- each entry of the sheet is one
@@ -187,51 +230,68 @@ module _ (s : View) where
   unfolding moved
   moved-by x byte size deadline = refl
 
-  -- it refuses what the speed call refuses
-  pub advance-refusal-speed : (plan : List ℕ) (x : State) (size deadline : ℕ) {number : ℕ} → number ≡ speedRefusal s plan x → (number ≡ 0 → ⊥) →
+  -- it refuses what the tests of the slot that ends refuse
+  pub advance-refusal-ending : (plan : List ℕ) (x : State) (size deadline : ℕ) {number : ℕ} → number ≡ endingRefusal s plan x → (number ≡ 0 → ⊥) →
       advanceRefusal s plan x size deadline ≡ number
   unfolding advanceLines
-  advance-refusal-speed plan x size deadline {number = number} e some = rw (← e) (then-stops number _ some)
+  advance-refusal-ending plan x size deadline {number = number} e some = rw (← e) (then-stops number _ some)
 
   -- then 15, where the arrival is no entry
-  pub advance-refusal-15 : (plan : List ℕ) (x : State) (size deadline : ℕ) → speedRefusal s plan x ≡ 0 → isEntry s size deadline ≡ false →
+  pub advance-refusal-15 : (plan : List ℕ) (x : State) (size deadline : ℕ) → endingRefusal s plan x ≡ 0 → isEntry s size deadline ≡ false →
       advanceRefusal s plan x size deadline ≡ 15
   unfolding advanceLines
-  advance-refusal-15 plan x size deadline e wrong = then-on (speedRefusal s plan x) _ e ∙ then-fails (isEntry s size deadline) 14 _ wrong
+  advance-refusal-15 plan x size deadline e wrong = then-on (endingRefusal s plan x) _ e ∙ then-fails (isEntry s size deadline) 14 _ wrong
 
-  -- and 17 and 18 are left otherwise
-  pub advance-refusal-next : (plan : List ℕ) (x : State) (size deadline : ℕ) → speedRefusal s plan x ≡ 0 → isEntry s size deadline ≡ true →
-      advanceRefusal s plan x size deadline ≡ nextRefusal s (moved s x (planByte s plan x) size deadline)
+  after-entry : (plan : List ℕ) (x : State) (size deadline : ℕ) → endingRefusal s plan x ≡ 0 → isEntry s size deadline ≡ true →
+      let next = moved s x (planByte s plan x) size deadline in
+      advanceRefusal s plan x size deadline ≡ nextRefusal s next then check (beginsRight s plan next) 16
   unfolding advanceLines
-  advance-refusal-next plan x size deadline e right =
-      then-on (speedRefusal s plan x) _ e ∙ then-passes (isEntry s size deadline) 15 _ right
+  after-entry plan x size deadline e right =
+      then-on (endingRefusal s plan x) _ e ∙ then-passes (isEntry s size deadline) 15 _ right
 
-  -- what an advance that is not refused has: a speed call that is not refused, and a next queue that is bearable
+  -- then 17 and 18
+  pub advance-refusal-next : (plan : List ℕ) (x : State) (size deadline : ℕ) {number : ℕ} → endingRefusal s plan x ≡ 0 →
+      isEntry s size deadline ≡ true → nextRefusal s (moved s x (planByte s plan x) size deadline) ≡ number → (number ≡ 0 → ⊥) →
+      advanceRefusal s plan x size deadline ≡ number
+  advance-refusal-next plan x size deadline {number = number} e right next some =
+      after-entry plan x size deadline e right ∙ rw next (then-stops number _ some)
+
+  -- and the plan byte of the next state decides otherwise
+  pub advance-refusal-begins : (plan : List ℕ) (x : State) (size deadline : ℕ) → endingRefusal s plan x ≡ 0 → isEntry s size deadline ≡ true →
+      let next = moved s x (planByte s plan x) size deadline in
+      nextRefusal s next ≡ 0 → advanceRefusal s plan x size deadline ≡ check (beginsRight s plan next) 16
+  advance-refusal-begins plan x size deadline e right next =
+      after-entry plan x size deadline e right ∙ then-on (nextRefusal s (moved s x (planByte s plan x) size deadline)) _ next
+
+  -- what an advance that is not refused has: no test of the slot that ends fails, the next queue is bearable, and the next plan byte right
   pub advance-accepted : (plan : List ℕ) (x : State) (size deadline : ℕ) → advanceRefusal s plan x size deadline ≡ 0 →
-      (speedRefusal s plan x ≡ 0) × T (bearable (M s) (queueOf s (moved s x (planByte s plan x) size deadline)))
+      let next = moved s x (planByte s plan x) size deadline in
+      (endingRefusal s plan x ≡ 0) × T (bearable (M s) (queueOf s next)) × T (beginsRight s plan next)
   unfolding advanceLines
   advance-accepted plan x size deadline e =
       let next = moved s x (planByte s plan x) size deadline in
       let first = bearable (M s) (queueOf s next) in
-      let after-entry = then-right (check (isEntry s size deadline) 15) _ (then-right (speedRefusal s plan x) _ e) in
-      (then-left (speedRefusal s plan x) _ e, check-zero first 16 (then-left (check first 17) _ after-entry))
+      let after = then-right (check (isEntry s size deadline) 15) _ (then-right (endingRefusal s plan x) _ e) in (
+        then-left (endingRefusal s plan x) _ e,
+        check-zero first 16 (then-left (check first 17) _ (then-left (nextRefusal s next) _ after)),
+        check-zero (beginsRight s plan next) 15 (then-right (nextRefusal s next) _ after),
+      )
 
-  -- what they answer, and what when they refuse
+  -- the number is that of the refusal, and what a refused call gives
 
-  -- the number of a start is that of its refusal; "A refused start gives an all-zero state"
-  pub start-number : (x : State) → (start s x .number ≡ startRefusal s x) × ((start s x .number ≡ 0 → ⊥) → start s x .state ≡ zeroState)
+  -- "A refused start gives an all-zero state"; "a refused call's speed is 0"
+  pub start-number : (plan : List ℕ) (x : State) →
+      (start s plan x .number ≡ startRefusal s plan x) ×
+      ((start s plan x .number ≡ 0 → ⊥) → (start s plan x .state ≡ zeroState) × (start s plan x .speed ≡ 0))
   unfolding start
-  start-number x = (refl, λ some. rw (ne-eqb (startRefusal s x) 0 some))
+  start-number plan x = (refl, λ some. (rw (ne-eqb (startRefusal s plan x) 0 some), rw (ne-eqb (startRefusal s plan x) 0 some)))
 
-  -- the number of a speed call is that of its refusal; "A refused speed is 0"
-  pub speed-number : (plan : List ℕ) (x : State) →
-      (speed s plan x .number ≡ speedRefusal s plan x) × ((speed s plan x .number ≡ 0 → ⊥) → speed s plan x .speed ≡ 0)
-  unfolding speed
-  speed-number plan x = (refl, λ some. rw (ne-eqb (speedRefusal s plan x) 0 some))
-
-  -- the number of an advance is that of its refusal; "a refused advance hands back the state it got"
+  -- "a refused advance hands back the state it got"; "a refused call's speed is 0"
   pub advance-number : (plan : List ℕ) (x : State) (size deadline : ℕ) →
       (advance s plan x size deadline .number ≡ advanceRefusal s plan x size deadline) ×
-      ((advance s plan x size deadline .number ≡ 0 → ⊥) → advance s plan x size deadline .state ≡ x)
+      ((advance s plan x size deadline .number ≡ 0 → ⊥) →
+      (advance s plan x size deadline .state ≡ x) × (advance s plan x size deadline .speed ≡ 0))
   unfolding advance
-  advance-number plan x size deadline = (refl, λ some. rw (ne-eqb (advanceRefusal s plan x size deadline) 0 some))
+  advance-number plan x size deadline =
+      let refusal = advanceRefusal s plan x size deadline in
+      (refl, λ some. (rw (ne-eqb refusal 0 some), rw (ne-eqb refusal 0 some)))

@@ -1,11 +1,13 @@
--- Stepping with a right plan is never refused (the model's Stepper.antt): from a queue that has a value at its slot, speed and each advance
--- by an entry of the sheet answer 0, and the next queue has a value again; at the horizon the answer is 14, and what was spent is what a
--- least good way spends along the same entries. Callers' proofs cite these laws, and not the stepper's definitions.
+-- Stepping with a right plan is never refused (the model's Stepper.antt): from a queue that has a value at its slot, start and each advance
+-- by an entry of the sheet answer 0 and the plan's speed of the slot that begins, and the next queue has a value again; at the horizon the
+-- answer is 14, and what was spent is what a least good way spends along the same entries. Callers' proofs cite these laws, and not the
+-- stepper's definitions.
 use Prim.Native.Nat.{ℕ, suc, _+_, _*_, _-_, _≤_, _<_}
 use mathlib.Core.Path.{_≡_, sym, ap, _∙_, subst}
 use mathlib.Core.Bool.{true, false}
 use mathlib.Core.List.{List}
-use native.Mathlib.Nat.{le-refl, le-of-lt, mul-le-mul}
+use mathlib.Core.Logic.{⊎-elim}
+use native.Mathlib.Nat.{le-refl, le-of-lt, eq-or-lt-of-le, mul-le-mul}
 use native.Mathlib.Omega.{arith}
 use borrow.Author.Tests.{le-leb}
 use lib.Dec.{T, leb, le→leb}
@@ -19,14 +21,14 @@ use Rattle.model.specs.View.{View, speedAt, sizeAt, deadlineAt, weightAt, onShe
 use Rattle.model.specs.Plan.{nextQueue, processOf, HasValue, noSpeed, byteOfQueue, rowRefusal}
 use Rattle.model.specs.Queue.{Queue, total, positions, queueIn, placesOf, bearable, unusedZero, bearableIn, oneSlot}
 use Rattle.model.specs.Refusal.{sheetRefusal, valueLimit}
-use Rattle.model.specs.Stepper.{State, queueOf, queueRight, stateRight, start, planByte, byteRight, speedRefusal, speed, isEntry, moved, energyLimit, nextRefusal, advanceRefusal, advance}
+use Rattle.model.specs.Stepper.{State, zeroState, begun, queueOf, queueRight, stateRight, planByte, byteRight, speedNow, beginsRight, start, endingRefusal, isEntry, moved, energyLimit, nextRefusal, advance}
 use Rattle.model.specs.Tests.{check}
 use Rattle.model.proofs.Admissible.{good-bearable}
 use Rattle.model.proofs.View.{on-sheet, place-of, energy-of-upto}
 use Rattle.model.proofs.Queues.{length-slot, held-bearable, length-in, length-places, in-first-places, places-hold}
 use Rattle.model.proofs.Refusal.{Ranged, accepted, speeds-rise, greatest-energy-high}
 use Rattle.laws.proofs.Rooms.{row-accepted}
-use Rattle.laws.proofs.Stepper.{state-right, start-by, start-refusal-0, energy-decides, speed-by, speed-refusal-14, speed-refusal-16-or-0, wrong-byte, byte-at, first-decides, entry-at, moved-by, advance-by, advance-refusal-speed, advance-refusal-next}
+use Rattle.laws.proofs.Stepper.{state-right, energy-decides, start-by, advance-by, wrong-byte, byte-at, first-decides, begins-at-end, begins-before, start-refusal-begins, ending-refusal-14, ending-refusal-16-or-0, entry-at, moved-by, advance-refusal-ending, advance-refusal-begins}
 use Rattle.model.proofs.Tests.{holds-true, fails-false, and-both, check-passes, check-true, check-false, then-both}
 
 -- plan bytes that are right: at every slot before the horizon, for every bearable queue that has a value, the byte begins a least way
@@ -64,11 +66,6 @@ module _ (s : View) where
   unfolding bearableIn
   right-with-value e t x unused v = and-both (bearable (M s) (queueOf s x)) _ (value-bearable e t (queueOf s x) v) unused
 
-  -- start from a right queue answers 0, and gives slot 0 and energy 0
-  pub started : sheetRefusal valueLimit s ≡ 0 → (x : State) → T (queueRight s x) →
-      start s x ≡ record { number = 0; state = record { queue = x .queue; slot = 0; energy = 0 } }
-  started e x right = start-by s x (start-refusal-0 s x e (holds-true (queueRight s x) right))
-
   -- 13 passes of a state from which stepping goes on
   going-right : (t : ℕ) (x : State) → t ≤ s .horizon → Going s t x → stateRight s x ≡ true
   going-right t x h g =
@@ -78,33 +75,40 @@ module _ (s : View) where
 
   -- at the horizon: 14, whatever the plan holds and whatever arrives
   pub ended : (plan : List ℕ) (x : State) → rowRefusal s (length plan) ≡ 0 → Going s (s .horizon) x →
-      (speed s plan x ≡ record { number = 14; speed = 0 }) ×
-      ((size deadline : ℕ) → advance s plan x size deadline ≡ record { number = 14; state = x })
-  ended plan x e g =
-      let last = speed-refusal-14 s plan x e (going-right (s .horizon) x (le-refl (s .horizon)) g) (g .at-slot) in (
-        speed-by s plan x last,
-        λ size deadline. advance-by s plan x size deadline (advance-refusal-speed s plan x size deadline (sym last) (λ q. omega arith)),
-      )
+      (size deadline : ℕ) → advance s plan x size deadline ≡ record { number = 14; state = x; speed = 0 }
+  ended plan x e g size deadline =
+      let last = ending-refusal-14 s plan x e (going-right (s .horizon) x (le-refl (s .horizon)) g) (g .at-slot) in
+      advance-by s plan x size deadline (advance-refusal-ending s plan x size deadline (sym last) (λ q. omega arith))
 
-  -- before the horizon, where the plan byte is the one of a queue that has no value: 16, whatever arrives
-  pub no-way-16 : (plan : List ℕ) (x : State) → rowRefusal s (length plan) ≡ 0 → T (stateRight s x) → x .slot < s .horizon →
-      planByte s plan x ≡ noSpeed →
-      (speed s plan x ≡ record { number = 16; speed = 0 }) ×
-      ((size deadline : ℕ) → advance s plan x size deadline ≡ record { number = 16; state = x })
-  no-way-16 plan x e right before none =
+  -- where the plan byte is the one of a queue that has no value, it is not right
+  none-wrong : (plan : List ℕ) (x : State) → rowRefusal s (length plan) ≡ 0 → planByte s plan x ≡ noSpeed →
+      byteRight s x (planByte s plan x) ≡ false
+  none-wrong plan x e none =
       let ranges = accepted s (row-accepted s (length plan) e .0) .ranged in
       let apart : onSheet s noSpeed ≡ false = fails-false (onSheet s noSpeed) (λ on. too-fast ranges (place-of s noSpeed on)) in
-      let wrong = wrong-byte s x (planByte s plan x) (ap (onSheet s) none ∙ apart) in
-      let refusal = speed-refusal-16-or-0 s plan x e (holds-true (stateRight s x) right) (λ q. omega arith) ∙
-      check-false (byteRight s x (planByte s plan x)) 16 wrong in (
-        speed-by s plan x refusal,
-        λ size deadline.
-            advance-by s plan x size deadline (advance-refusal-speed s plan x size deadline (sym refusal) (λ q. omega arith)),
-      )
+      wrong-byte s x (planByte s plan x) (ap (onSheet s) none ∙ apart)
     where
       -- no speed of a sheet is above 8
       too-fast : Ranged s → (j : ℕ) × (j < s .speedCount) × (speedAt s j ≡ noSpeed) → ⊥
       too-fast ranges (j, l, at) = omega (arith, ranges .speed-high j l, at)
+
+  -- so a start is refused with 16
+  pub no-way-start : (plan : List ℕ) (x : State) → rowRefusal s (length plan) ≡ 0 → T (queueRight s x) → planByte s plan (begun x) ≡ noSpeed →
+      start s plan x ≡ record { number = 16; state = zeroState; speed = 0 }
+  no-way-start plan x e right none =
+      let slots = accepted s (row-accepted s (length plan) e .0) .ranged .horizon-low in
+      let wrong = begins-before s plan (begun x) (λ q. omega (arith, slots, q)) .1 ∙ none-wrong plan (begun x) e none in
+      start-by s plan x
+      (start-refusal-begins s plan x e (holds-true (queueRight s x) right) ∙ check-false (beginsRight s plan (begun x)) 16 wrong)
+
+  -- and so is an advance before the horizon, whatever arrives
+  pub no-way-16 : (plan : List ℕ) (x : State) → rowRefusal s (length plan) ≡ 0 → T (stateRight s x) → x .slot < s .horizon →
+      planByte s plan x ≡ noSpeed →
+      (size deadline : ℕ) → advance s plan x size deadline ≡ record { number = 16; state = x; speed = 0 }
+  no-way-16 plan x e right before none size deadline =
+      let refusal = ending-refusal-16-or-0 s plan x e (holds-true (stateRight s x) right) (λ q. omega arith) ∙
+      check-false (byteRight s x (planByte s plan x)) 16 (none-wrong plan x e none) in
+      advance-by s plan x size deadline (advance-refusal-ending s plan x size deadline (sym refusal) (λ q. omega arith))
 
   -- before the horizon, with a right plan
 
@@ -139,16 +143,22 @@ module _ (s : View) where
         let step = first-step (processOf s) (s .jobCount) (weightAt s) (ranges .jobs-low) (s .horizon - suc t) (queueOf s x) byte now in
         (on-sheet s byte .1 (step .0), step .1, step .2)
 
-    -- 14 and 16 pass
-    speed-zero : speedRefusal s plan x ≡ 0
-    speed-zero =
-        speed-refusal-16-or-0 s plan x e (going-right t x (le-of-lt h) g) (λ q. omega (arith, g .at-slot)) ∙
-        check-true (byteRight s x byte) 16
-        (first-decides s x byte (holds-true (onSheet s byte) (onward .0)) ∙ holds-true (leb (total (queueOf s x) 1) byte) (onward .1))
+    -- 16 passes
+    pub byte-passes : byteRight s x byte ≡ true
+    byte-passes =
+        first-decides s x byte (holds-true (onSheet s byte) (onward .0)) ∙ holds-true (leb (total (queueOf s x) 1) byte) (onward .1)
 
-    -- speed is the plan's, with number 0
-    pub told : speed s plan x ≡ record { number = 0; speed = planByte s plan x }
-    told = speed-by s plan x speed-zero
+    -- so the speed of the slot that begins is the plan's
+    pub begins-planned : (speedNow s plan x ≡ byte) × (beginsRight s plan x ≡ true)
+    begins-planned =
+        let before = begins-before s plan x (λ q. omega (arith, g .at-slot)) in
+        (before .0, before .1 ∙ byte-passes)
+
+    -- and no test of the slot that ends fails
+    ending-zero : endingRefusal s plan x ≡ 0
+    ending-zero =
+        ending-refusal-16-or-0 s plan x e (going-right t x (le-of-lt h) g) (λ q. omega (arith, g .at-slot)) ∙
+        check-true (byteRight s x byte) 16 byte-passes
 
     -- one entry
     module _ (i : ℕ) (l : i < s .jobCount) where
@@ -168,15 +178,12 @@ module _ (s : View) where
       next-bearable : T (bearable (M s) next)
       next-bearable = value-bearable (row-accepted s (length plan) e .0) (suc t) next (onward .2 i l)
 
-      -- 15, 17 and 18 pass
-      advance-zero : advanceRefusal s plan x (sizeAt s i) (deadlineAt s i) ≡ 0
-      advance-zero =
-          let after = moved-by s x byte (sizeAt s i) (deadlineAt s i) in
+      -- 17 and 18 pass
+      next-zero : nextRefusal s (moved s x byte (sizeAt s i) (deadlineAt s i)) ≡ 0
+      next-zero =
           let right = going-right t x (le-of-lt h) g in
           let small = energy-small (row-accepted s (length plan) e .0) x (subst T (sym right) tt) byte (onward .0) in
-          advance-refusal-next s plan x (sizeAt s i) (deadlineAt s i) speed-zero
-          (holds-true (isEntry s (sizeAt s i) (deadlineAt s i)) (entry-at s i l)) ∙
-          ap (nextRefusal s) after ∙
+          ap (nextRefusal s) (moved-by s x byte (sizeAt s i) (deadlineAt s i)) ∙
           then-both (check (bearable (M s) (queueIn (s .bound) (placesOf next))) 17) _
           (check-passes (bearable (M s) (queueIn (s .bound) (placesOf next))) 17
           (subst (λ (w : Queue). T (bearable (M s) w)) (sym in-next) next-bearable))
@@ -195,11 +202,45 @@ module _ (s : View) where
             has-value = subst (HasValue s (suc t)) (sym in-next) (onward .2 i l);
           })
 
-      -- advance by any entry of the sheet: number 0, the next state, and stepping goes on from it
-      pub stepped : (advance s plan x (sizeAt s i) (deadlineAt s i) ≡
-          record { number = 0; state = moved s x (planByte s plan x) (sizeAt s i) (deadlineAt s i) }) ×
-          Going s (suc t) (moved s x (planByte s plan x) (sizeAt s i) (deadlineAt s i))
-      stepped = (advance-by s plan x (sizeAt s i) (deadlineAt s i) advance-zero, next-going)
+      -- where the next slot's plan byte passes 16, or there is none, an advance by the entry answers 0 and the next state with its speed
+      moves : beginsRight s plan (moved s x byte (sizeAt s i) (deadlineAt s i)) ≡ true →
+          let after = moved s x byte (sizeAt s i) (deadlineAt s i) in
+          advance s plan x (sizeAt s i) (deadlineAt s i) ≡ record { number = 0; state = after; speed = speedNow s plan after }
+      moves right =
+          advance-by s plan x (sizeAt s i) (deadlineAt s i)
+          (advance-refusal-begins s plan x (sizeAt s i) (deadlineAt s i) ending-zero
+          (holds-true (isEntry s (sizeAt s i) (deadlineAt s i)) (entry-at s i l)) next-zero ∙
+          check-true (beginsRight s plan (moved s x byte (sizeAt s i) (deadlineAt s i))) 16 right)
+
+  -- start, from a queue that has a value at slot 0, answers 0, that queue at slot 0, and the plan's speed
+  pub started : (plan : List ℕ) → rowRefusal s (length plan) ≡ 0 → RightPlan s plan → (x : State) → Going s 0 (begun x) →
+      start s plan x ≡ record { number = 0; state = begun x; speed = speedNow s plan (begun x) }
+  started plan e right-plan x g =
+      let slots = accepted s (row-accepted s (length plan) e .0) .ranged .horizon-low in
+      start-by s plan x
+      (start-refusal-begins s plan x e (holds-true (queueRight s x) (g .right)) ∙
+      check-true (beginsRight s plan (begun x)) 16 (begins-planned plan e right-plan 0 slots (begun x) g .1))
+
+  -- advance by any entry of the sheet: number 0, the next state with the speed of the slot that begins, and stepping goes on from it
+  pub stepped : (plan : List ℕ) (e : rowRefusal s (length plan) ≡ 0) (right-plan : RightPlan s plan) (t : ℕ) (h : t < s .horizon)
+      (x : State) (g : Going s t x) (i : ℕ) (l : i < s .jobCount) →
+      let after = moved s x (planByte s plan x) (sizeAt s i) (deadlineAt s i) in
+      (advance s plan x (sizeAt s i) (deadlineAt s i) ≡ record { number = 0; state = after; speed = speedNow s plan after }) ×
+      Going s (suc t) after
+  stepped plan e right-plan t h x g i l =
+      (moves plan e right-plan t h x g i l (⊎-elim last more (eq-or-lt-of-le h)), goes)
+    where
+      after : State
+      after = moved s x (planByte s plan x) (sizeAt s i) (deadlineAt s i)
+
+      goes : Going s (suc t) after
+      goes = next-going plan e right-plan t h x g i l
+
+      last : suc t ≡ s .horizon → beginsRight s plan after ≡ true
+      last q = begins-at-end s plan after (goes .at-slot ∙ q) .1
+
+      more : suc t < s .horizon → beginsRight s plan after ≡ true
+      more before = begins-planned plan e right-plan (suc t) before after goes .1
 
   -- stepping to the horizon with a right plan spends the least
 

@@ -13,7 +13,7 @@ use Rattle.process.specs.Recursion.{priced, plan}
 use Rattle.process.specs.Ways.{IsValue, IsCost, IsFirst}
 use Rattle.process.proofs.Sums.{same-true}
 use Rattle.process.proofs.Value.{value-is, first-is, cost-is}
-use Rattle.model.specs.Cases.{Case, planned, valued, decides, answers, costs, refuses, reads, views, counts, fields, steps, tells, numbers, lists, tests, Holds, AllHold, casesOfA, casesOfHopeless, casesP, casesOfPlans, casesOfQueues, casesOfRefusals, casesOfBytes, casesOfSteps, casesOfListings, cases}
+use Rattle.model.specs.Cases.{Case, planned, valued, decides, answers, costs, refuses, reads, views, counts, fields, steps, numbers, lists, tests, Holds, AllHold, casesOfA, casesOfHopeless, casesP, casesOfPlans, casesOfQueues, casesOfRefusals, casesOfBytes, casesOfSteps, casesOfListings, cases}
 use Rattle.model.specs.View.{View, viewOf, speedAt, weightAt, onSheet, M}
 use Rattle.model.specs.Plan.{processOf, IsValueAt, IsPlanByte, queueAt, number12}
 use Rattle.model.specs.Queue.{Queue, emptyQueue, bearable, continuationCount}
@@ -21,7 +21,7 @@ use Rattle.model.specs.Reading.{Answer, refused, readView, ReadSheet, re
 use Rattle.model.specs.Reading
 use Rattle.model.specs.Width.{narrow, valueIn}
 use Rattle.model.specs.Refusal.{N, refusalGiven, sheetRefusal, sheetLines, valueLimit}
-use Rattle.model.specs.Stepper.{State, speed}
+use Rattle.model.specs.Stepper.{State}
 use Rattle.model.specs.declared.Job.{Job}
 use Rattle.model.specs.declared.Sheet.{Sheet}
 use Rattle.model.specs.declared.Speed.{Speed}
@@ -250,14 +250,12 @@ sound (reads bytes number memory) b =
 sound (views memory s) b = sameView-true (viewOf memory) s b
 sound (counts M D n) b = queue-count M D ∙ eqb→eq (continuationCount M D 0) n b
 sound (fields found expected) b = sameAnswer-true found expected b
-sound (steps answer number state) b = (
-  eqb→eq (answer .number) number (and-left (eqb (answer .number) number) (sameState (answer .state) state) b),
-  sameState-true (answer .state) state (and-right (eqb (answer .number) number) (sameState (answer .state) state) b),
-)
-sound (tells answer number speed) b = (
-  eqb→eq (answer .number) number (and-left (eqb (answer .number) number) (eqb (answer .speed) speed) b),
-  eqb→eq (answer .speed) speed (and-right (eqb (answer .number) number) (eqb (answer .speed) speed) b),
-)
+sound (steps answer number state speed) b =
+    let told = and-three (eqb (answer .number) number) (sameState (answer .state) state) (eqb (answer .speed) speed) b in (
+      eqb→eq (answer .number) number (told .0),
+      sameState-true (answer .state) state (told .1),
+      eqb→eq (answer .speed) speed (told .2),
+    )
 sound (numbers found expected) b = eqb→eq found expected b
 sound (lists found expected) b = same-true found expected b
 sound (tests found expected) b = sameBool-true found expected b

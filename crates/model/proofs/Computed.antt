@@ -10,7 +10,7 @@ use lib.ListN.{length, getD}
 use Rattle.process.specs.Sums.{sum, same}
 use Rattle.process.specs.Recursion.{sumOrNone, cheaper, best, priced, choice, value, plan}
 use Rattle.model.specs.Bytes.{codeIn, speedBytes, jobBytes, sheetBytes, writeLines, write}
-use Rattle.model.specs.Cases.{Case, planned, valued, decides, answers, costs, refuses, reads, views, counts, fields, steps, tells, numbers, lists, tests, casesOfA, casesOfHopeless, casesP, casesOfPlans, casesOfQueues, casesOfRefusals, casesOfBytes, casesOfSteps, casesOfListings}
+use Rattle.model.specs.Cases.{Case, planned, valued, decides, answers, costs, refuses, reads, views, counts, fields, steps, numbers, lists, tests, casesOfA, casesOfHopeless, casesP, casesOfPlans, casesOfQueues, casesOfRefusals, casesOfBytes, casesOfSteps, casesOfListings}
 use Rattle.model.specs.View.{View, viewOf, speedAt, weightAt, speedsOf, onSheet, energyOf, W, M, greatestEnergy, G}
 use Rattle.model.specs.Listing.{digitsIn, header, bytesListed, lineOf, listing, refusedLine, listLines, list}
 use Rattle.model.specs.Plan.{nextQueue, processOf, admissible, queueAt, number12, planLines, rowLines, row}
@@ -19,7 +19,7 @@ use Rattle.model.specs.Reading.{Answer, refused, numberIn, readSpeed, re
 use Rattle.model.specs.Reading
 use Rattle.model.specs.Width.{narrow, numberFrom, valueIn}
 use Rattle.model.specs.Refusal.{speedsLines, jobsLines, fieldLines, limitLines, N, refusalGiven, linesGiven, sheetLines, valueLimit}
-use Rattle.model.specs.Stepper.{State, stateRight, startLines, start, planByte, byteRight, speedLines, speed, isEntry, moved, advanceLines, advance}
+use Rattle.model.specs.Stepper.{State, stateRight, planByte, byteRight, speedNow, beginsRight, startLines, start, endingLines, isEntry, moved, advanceLines, advance}
 use Rattle.model.specs.declared.Job.{Job}
 use Rattle.model.specs.declared.Sheet.{Sheet}
 use Rattle.model.specs.declared.Speed.{Speed}
@@ -124,8 +124,7 @@ test (reads bytes number memory) =
 test (views memory s) = sameView (viewOf memory) s
 test (counts M D n) = eqb (continuationCount M D 0) n
 test (fields found expected) = sameAnswer found expected
-test (steps answer number state) = eqb (answer .number) number && sameState (answer .state) state
-test (tells answer number speed) = eqb (answer .number) number && eqb (answer .speed) speed
+test (steps answer number state speed) = eqb (answer .number) number && (sameState (answer .state) state && eqb (answer .speed) speed)
 test (numbers found expected) = eqb found expected
 test (lists found expected) = same found expected
 test (tests found expected) = sameBool found expected
@@ -151,7 +150,7 @@ pub record EachListPasses : Type 0 where
   pub listings : AllPass casesOfListings
 
 pub each-list-passes : EachListPasses
-unfolding casesP casesOfA casesOfHopeless casesOfPlans casesOfQueues casesOfRefusals casesOfBytes casesOfSteps casesOfListings firstFailing test quickN orderly byteTest decidesTest costTest rowTest sameOption sameAnswer sameState sameBy sameSpeed sameJob sameView sameBool sum sumOrNone cheaper best priced choice value plan codeIn speedBytes jobBytes sheetBytes writeLines write digitsIn header bytesListed lineOf listing refusedLine listLines list speedsOf onSheet energyOf W M greatestEnergy G nextQueue processOf admissible planLines rowLines row bearable bearableIn run arrive eachTotal continuations bearableQueues queueCount placeIn numberOf continuationCount numberIn readSpeed readSpeeds readSpeedTable readJob readJobs readJobTable judged readView speedsLines jobsLines fieldLines limitLines N linesGiven sheetLines numberFrom stateRight startLines start planByte byteRight speedLines speed isEntry moved advanceLines advance inOrder inTurn everywhere anywhere firstPlace greatest listed same
+unfolding casesP casesOfA casesOfHopeless casesOfPlans casesOfQueues casesOfRefusals casesOfBytes casesOfSteps casesOfListings firstFailing test quickN orderly byteTest decidesTest costTest rowTest sameOption sameAnswer sameState sameBy sameSpeed sameJob sameView sameBool sum sumOrNone cheaper best priced choice value plan codeIn speedBytes jobBytes sheetBytes writeLines write digitsIn header bytesListed lineOf listing refusedLine listLines list speedsOf onSheet energyOf W M greatestEnergy G nextQueue processOf admissible planLines rowLines row bearable bearableIn run arrive eachTotal continuations bearableQueues queueCount placeIn numberOf continuationCount numberIn readSpeed readSpeeds readSpeedTable readJob readJobs readJobTable judged readView speedsLines jobsLines fieldLines limitLines N linesGiven sheetLines numberFrom stateRight planByte byteRight speedNow beginsRight startLines start endingLines isEntry moved advanceLines advance inOrder inTurn everywhere anywhere firstPlace greatest listed same
 each-list-passes = record {
   marked = refl;
   plans = refl;

@@ -15,7 +15,7 @@ use lib.Seq.{ext-getD, length-take-le, getD-take, take-take, take-append-seam}
 use Rattle.process.specs.Sums.{sum, same}
 use Rattle.process.proofs.Sums.{same-refl, same-true}
 use Rattle.model.specs.Tests.{listed}
-use Rattle.model.specs.Queue.{Queue, total, totals, emptyQueue, positions, queueIn, placesOf, bearableAt, bearable, unusedAt, bearableIn, run, arrive, oneSlot, before, eachTotal, continuations, bearableQueues, queueCount, placeIn, numberOf, continuationCount}
+use Rattle.model.specs.Queue.{Queue, total, totals, emptyQueue, positions, queueIn, placesOf, bearableAt, bearable, unusedAt, unusedZero, bearableIn, run, arrive, oneSlot, before, eachTotal, continuations, bearableQueues, queueCount, placeIn, numberOf, continuationCount}
 use Rattle.model.proofs.Tests.{check-passes, and-left, and-right, and-both, everywhere-at, everywhere-all, length-listed, getD-listed}
 
 -- a queue by its totals
@@ -98,6 +98,11 @@ bearable-all M w all =
 pub held-bearable : (M D : ℕ) (places : List ℕ) → T (bearableIn M D places) → T (bearable M (queueIn D places))
 unfolding bearableIn
 held-bearable M D places t = and-left (bearable M (queueIn D places)) _ t
+
+-- and the others are zero
+pub held-unused : (M D : ℕ) (places : List ℕ) → T (bearableIn M D places) → T (unusedZero D places)
+unfolding bearableIn
+held-unused M D places t = and-right (bearable M (queueIn D places)) _ t
 
 -- a queue and the six places that it stands in
 

@@ -13,7 +13,7 @@ use Rattle.model.specs.Plan.{IsValueAt, IsCostAt, IsPlanByte, PlanAnswer
 use Rattle.model.specs.Queue.{Queue, emptyQueue, placesOf, run, arrive, queueCount, numberOf, bearable}
 use Rattle.model.specs.Reading.{Answer, value, refused, field, read}
 use Rattle.model.specs.Refusal.{sheetRefusal, N, valueLimit}
-use Rattle.model.specs.Stepper.{State, Stepped, Told, start, speed, advance}
+use Rattle.model.specs.Stepper.{State, Stepped, start, advance}
 use Rattle.model.specs.Width.{narrow, valueIn}
 use Rattle.model.specs.declared.Job.{Job}
 use Rattle.model.specs.declared.Sheet.{Sheet}
@@ -38,10 +38,10 @@ pub data Case : Type 0 where
   views : Sheet → View → Case
   -- N for M and D
   counts : ℕ → ℕ → ℕ → Case
-  -- what a field, a start or an advance, and a speed call answer
+  -- what a field answers
   fields : Answer ℕ → Answer ℕ → Case
-  steps : Stepped → ℕ → State → Case
-  tells : Told → ℕ → ℕ → Case
+  -- what a start or an advance answers: the number, the state and the speed
+  steps : Stepped → ℕ → State → ℕ → Case
   -- two numbers, two lists, two tests are the same
   numbers : ℕ → ℕ → Case
   lists : List ℕ → List ℕ → Case
@@ -61,8 +61,7 @@ Holds (reads bytes number memory) = (read bytes .number ≡ number) × (read byt
 Holds (views memory s) = viewOf memory ≡ s
 Holds (counts M D n) = queueCount M D ≡ n
 Holds (fields found expected) = found ≡ expected
-Holds (steps answer number state) = (answer .number ≡ number) × (answer .state ≡ state)
-Holds (tells answer number speed) = (answer .number ≡ number) × (answer .speed ≡ speed)
+Holds (steps answer number state speed) = (answer .number ≡ number) × (answer .state ≡ state) × (answer .speed ≡ speed)
 Holds (numbers found expected) = found ≡ expected
 Holds (lists found expected) = found ≡ expected
 Holds (tests found expected) = found ≡ expected
@@ -170,15 +169,12 @@ casesP =
     costs A 0 (0 ∷ 1 ∷ []) 0 4 ∷
     costs A 0 (0 ∷ 1 ∷ []) 1 4 ∷
     decides A 0 (0 ∷ 1 ∷ []) (some 4) 0 ∷
-    -- "start (0,2): speed 1; advance by (2,2): queue (1,3), energy 1"
-    steps (start A (state (0 ∷ 2 ∷ []) 0 0)) 0 (state (0 ∷ 2 ∷ []) 0 0) ∷
-    tells (speed A planA (state (0 ∷ 2 ∷ []) 0 0)) 0 1 ∷
-    steps (advance A planA (state (0 ∷ 2 ∷ []) 0 0) 2 2) 0 (state (1 ∷ 3 ∷ []) 1 1) ∷
-    -- "speed 1; advance by (0,1): queue (2,2), energy 2. P: then 14"
-    tells (speed A planA (state (1 ∷ 3 ∷ []) 1 1)) 0 1 ∷
-    steps (advance A planA (state (1 ∷ 3 ∷ []) 1 1) 0 1) 0 (state (2 ∷ 2 ∷ []) 2 2) ∷
-    tells (speed A planA (state (2 ∷ 2 ∷ []) 2 2)) 14 0 ∷
-    steps (advance A planA (state (2 ∷ 2 ∷ []) 2 2) 0 1) 14 (state (2 ∷ 2 ∷ []) 2 2) ∷
+    -- 01: "start (0,2): speed 1; advance by (2,2): queue (1,3), energy 1 .. speed 1; advance by (0,1): queue (2,2), energy 2. P: then 14".
+    -- [1]: "Start .. answers the first speed; advance answers the speed of the slot that begins, or 255 when the horizon is reached"
+    steps (start A planA (state (0 ∷ 2 ∷ []) 0 0)) 0 (state (0 ∷ 2 ∷ []) 0 0) 1 ∷
+    steps (advance A planA (state (0 ∷ 2 ∷ []) 0 0) 2 2) 0 (state (1 ∷ 3 ∷ []) 1 1) 1 ∷
+    steps (advance A planA (state (1 ∷ 3 ∷ []) 1 1) 0 1) 0 (state (2 ∷ 2 ∷ []) 2 2) 255 ∷
+    steps (advance A planA (state (2 ∷ 2 ∷ []) 2 2) 0 1) 14 (state (2 ∷ 2 ∷ []) 2 2) 0 ∷
     -- "130 is `82 01`; 300 is `AC 02`. P: `80 00` gives 2. P: `FF FF` at the end gives 1; `FF FF FF` gives 2"
     lists (code 130) (0x82 ∷ 0x01 ∷ []) ∷
     lists (code 300) (0xAC ∷ 0x02 ∷ []) ∷
@@ -403,43 +399,65 @@ casesOfBytes =
     []
 
 -- the stepper
+
+-- sheet A's plan with another byte at a place
+abbrev pub damaged : ℕ → ℕ → List ℕ
+damaged place byte = set planA place byte
+
 unfoldable pub casesOfSteps : List Case
 casesOfSteps =
     -- the slot and the energy of the state that a run starts from are not looked at
-    steps (start A (state (0 ∷ 2 ∷ []) 7 99)) 0 (state (0 ∷ 2 ∷ []) 0 0) ∷
+    steps (start A planA (state (0 ∷ 2 ∷ []) 7 99)) 0 (state (0 ∷ 2 ∷ []) 0 0) 1 ∷
+    -- the first speed is the byte of slot 0 and of this queue, whatever stands elsewhere
+    steps (start A (A0 ++ replicate 12 255) (state (0 ∷ 4 ∷ []) 0 0)) 0 (state (0 ∷ 4 ∷ []) 0 0) 2 ∷
     -- 13: falling, not bearable, a number that would wrap, an unused position; a refused start gives zeros
-    steps (start A (state (2 ∷ 1 ∷ []) 0 0)) 13 (state [] 0 0) ∷
-    steps (start A (state (0 ∷ 5 ∷ []) 0 0)) 13 (state [] 0 0) ∷
-    steps (start A (state (0 ∷ 4294967295 ∷ []) 0 0)) 13 (state [] 0 0) ∷
-    steps (start A (state (0 ∷ 0 ∷ 1 ∷ []) 0 0)) 13 (state [] 0 0) ∷
-    steps (start crowded (state (0 ∷ 5 ∷ []) 0 0)) 5 (state [] 0 0) ∷
+    steps (start A planA (state (2 ∷ 1 ∷ []) 0 0)) 13 (state [] 0 0) 0 ∷
+    steps (start A planA (state (0 ∷ 5 ∷ []) 0 0)) 13 (state [] 0 0) 0 ∷
+    steps (start A planA (state (0 ∷ 4294967295 ∷ []) 0 0)) 13 (state [] 0 0) 0 ∷
+    steps (start A planA (state (0 ∷ 0 ∷ 1 ∷ []) 0 0)) 13 (state [] 0 0) 0 ∷
+    -- the sheet's own number comes before 11, and 11 before 13
+    steps (start crowded [] (state (0 ∷ 5 ∷ []) 0 0)) 5 (state [] 0 0) 0 ∷
+    steps (start A A0 (state (0 ∷ 5 ∷ []) 0 0)) 11 (state [] 0 0) 0 ∷
+    -- 16: a queue that has no plan is not started, nor one whose byte is damaged
+    steps (start hopeless (255 ∷ 255 ∷ []) (state (1 ∷ []) 0 0)) 16 (state [] 0 0) 0 ∷
+    steps (start A (damaged 5 0) (state (1 ∷ 1 ∷ []) 0 0)) 16 (state [] 0 0) 0 ∷
+    steps (start A (damaged 4 3) (state (0 ∷ 4 ∷ []) 0 0)) 16 (state [] 0 0) 0 ∷
     -- 11 asks for the whole plan whatever the slot, after the sheet's own number and before 13 and 14
-    tells (speed crowded [] (state (0 ∷ 5 ∷ []) 9 0)) 5 0 ∷
-    tells (speed A A0 (state (0 ∷ 5 ∷ []) 9 0)) 11 0 ∷
-    tells (speed A (planA ++ (7 ∷ [])) (state (0 ∷ 2 ∷ []) 0 0)) 0 1 ∷
+    steps (advance crowded [] (state (0 ∷ 5 ∷ []) 9 0) 0 1) 5 (state (0 ∷ 5 ∷ []) 9 0) 0 ∷
+    steps (advance A A0 (state (0 ∷ 5 ∷ []) 9 0) 0 1) 11 (state (0 ∷ 5 ∷ []) 9 0) 0 ∷
+    steps (advance A (planA ++ (7 ∷ [])) (state (0 ∷ 2 ∷ []) 0 0) 0 1) 0 (state (1 ∷ 1 ∷ []) 1 1) 1 ∷
     -- a slot above T is 13, and slot T is 14
-    tells (speed A planA (state (0 ∷ 2 ∷ []) 3 0)) 13 0 ∷
-    tells (speed A planA (state (0 ∷ 2 ∷ []) 2 0)) 14 0 ∷
-    tells (speed A planA (state (0 ∷ 5 ∷ []) 2 0)) 13 0 ∷
+    steps (advance A planA (state (0 ∷ 2 ∷ []) 3 0) 0 1) 13 (state (0 ∷ 2 ∷ []) 3 0) 0 ∷
+    steps (advance A planA (state (0 ∷ 2 ∷ []) 2 0) 0 1) 14 (state (0 ∷ 2 ∷ []) 2 0) 0 ∷
+    steps (advance A planA (state (0 ∷ 5 ∷ []) 2 0) 0 1) 13 (state (0 ∷ 5 ∷ []) 2 0) 0 ∷
     -- the energy is at most the slot number times the greatest energy, which is 0 where all energies are
-    tells (speed A planA (state (0 ∷ 2 ∷ []) 1 4)) 0 0 ∷
-    tells (speed A planA (state (0 ∷ 2 ∷ []) 1 5)) 13 0 ∷
-    tells (speed free planA (state (0 ∷ 0 ∷ []) 1 1)) 13 0 ∷
-    tells (speed free planA (state (0 ∷ 0 ∷ []) 1 0)) 0 0 ∷
-    tells (speed falling planA (state (0 ∷ 0 ∷ []) 1 5)) 0 0 ∷
-    -- a queue that has no plan starts, and is then refused a speed
-    steps (start hopeless (state (1 ∷ []) 0 0)) 0 (state (1 ∷ []) 0 0) ∷
-    tells (speed hopeless (255 ∷ 255 ∷ []) (state (1 ∷ []) 0 0)) 16 0 ∷
+    steps (advance A planA (state (0 ∷ 2 ∷ []) 1 4) 0 1) 0 (state (2 ∷ 2 ∷ []) 2 4) 255 ∷
+    steps (advance A planA (state (0 ∷ 2 ∷ []) 1 5) 0 1) 13 (state (0 ∷ 2 ∷ []) 1 5) 0 ∷
+    steps (advance free planA (state (0 ∷ 0 ∷ []) 1 1) 0 1) 13 (state (0 ∷ 0 ∷ []) 1 1) 0 ∷
+    steps (advance free planA (state (0 ∷ 0 ∷ []) 1 0) 0 1) 0 (state (0 ∷ 0 ∷ []) 2 0) 255 ∷
+    steps (advance falling planA (state (0 ∷ 0 ∷ []) 1 5) 0 1) 0 (state (0 ∷ 0 ∷ []) 2 10) 255 ∷
     -- a damaged plan: 16 is for a byte that is no speed of the sheet or is below w(1), not for an inadmissible speed, which 17 stops
-    tells (speed A (set planA 4 0) (state (0 ∷ 4 ∷ []) 0 0)) 0 0 ∷
-    steps (advance A (set planA 4 0) (state (0 ∷ 4 ∷ []) 0 0) 0 1) 17 (state (0 ∷ 4 ∷ []) 0 0) ∷
-    steps (advance A (set planA 4 0) (state (0 ∷ 4 ∷ []) 0 0) 1 1) 15 (state (0 ∷ 4 ∷ []) 0 0) ∷
-    steps (advance A (set planA 4 3) (state (0 ∷ 4 ∷ []) 0 0) 1 1) 16 (state (0 ∷ 4 ∷ []) 0 0) ∷
-    tells (speed A (set planA 5 0) (state (1 ∷ 1 ∷ []) 0 0)) 16 0 ∷
+    steps (start A (damaged 4 0) (state (0 ∷ 4 ∷ []) 0 0)) 0 (state (0 ∷ 4 ∷ []) 0 0) 0 ∷
+    steps (advance A (damaged 4 0) (state (0 ∷ 4 ∷ []) 0 0) 0 1) 17 (state (0 ∷ 4 ∷ []) 0 0) 0 ∷
+    steps (advance A (damaged 4 0) (state (0 ∷ 4 ∷ []) 0 0) 1 1) 15 (state (0 ∷ 4 ∷ []) 0 0) 0 ∷
+    steps (advance A (damaged 4 3) (state (0 ∷ 4 ∷ []) 0 0) 1 1) 16 (state (0 ∷ 4 ∷ []) 0 0) 0 ∷
+    steps (advance A (damaged 5 0) (state (1 ∷ 1 ∷ []) 0 0) 0 1) 16 (state (1 ∷ 1 ∷ []) 0 0) 0 ∷
+    -- the new slot's byte: (1,3) has number 7, so its byte at slot 1 is at place 19. 255 is no speed, nor is 3; 0 is below w(1); the old
+    -- state comes back
+    steps (advance A (damaged 19 255) (state (0 ∷ 2 ∷ []) 0 0) 2 2) 16 (state (0 ∷ 2 ∷ []) 0 0) 0 ∷
+    steps (advance A (damaged 19 3) (state (0 ∷ 2 ∷ []) 0 0) 2 2) 16 (state (0 ∷ 2 ∷ []) 0 0) 0 ∷
+    steps (advance A (damaged 19 0) (state (0 ∷ 2 ∷ []) 0 0) 2 2) 16 (state (0 ∷ 2 ∷ []) 0 0) 0 ∷
+    steps (advance A (damaged 19 2) (state (0 ∷ 2 ∷ []) 0 0) 2 2) 0 (state (1 ∷ 3 ∷ []) 1 1) 2 ∷
+    -- it is tested last: after 15, and after 17
+    steps (advance A (damaged 19 255) (state (0 ∷ 2 ∷ []) 0 0) 2 1) 15 (state (0 ∷ 2 ∷ []) 0 0) 0 ∷
+    steps (advance A (A0 ++ replicate 12 255) (state (0 ∷ 4 ∷ []) 0 0) 2 2) 16 (state (0 ∷ 4 ∷ []) 0 0) 0 ∷
+    steps (advance A (replicate 12 0 ++ replicate 12 255) (state (0 ∷ 4 ∷ []) 0 0) 2 2) 17 (state (0 ∷ 4 ∷ []) 0 0) 0 ∷
+    -- at the horizon no byte is: what stands behind the plan is not looked at
+    steps (advance A (planA ++ replicate 12 0) (state (1 ∷ 3 ∷ []) 1 1) 0 1) 0 (state (2 ∷ 2 ∷ []) 2 2) 255 ∷
     -- the energy added is that of the speed run at
-    steps (advance A planA (state (2 ∷ 2 ∷ []) 0 0) 0 1) 0 (state (0 ∷ 0 ∷ []) 1 4) ∷
+    steps (advance A planA (state (2 ∷ 2 ∷ []) 0 0) 0 1) 0 (state (0 ∷ 0 ∷ []) 1 4) 0 ∷
     -- 15 asks for an entry with this size and this deadline together
-    steps (advance A planA (state (0 ∷ 2 ∷ []) 0 0) 2 1) 15 (state (0 ∷ 2 ∷ []) 0 0) ∷
+    steps (advance A planA (state (0 ∷ 2 ∷ []) 0 0) 2 1) 15 (state (0 ∷ 2 ∷ []) 0 0) 0 ∷
     []
 
 -- "For sheet A the whole output is"

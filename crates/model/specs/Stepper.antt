@@ -1,14 +1,13 @@
--- Document 01, "The stepper": start, speed and advance as functions from what they are given to what they answer, each with its order of
--- refusals.
+-- Document 01, "The stepper", with request [1] of 02, "One call per slot": start and advance as functions from what they are given to what
+-- they answer, each with its order of refusals.
 use Prim.Native.Nat.{ℕ, suc, _+_, _*_}
-use mathlib.Core.Bool.{Bool, cond, _&&_, not}
+use mathlib.Core.Bool.{Bool, cond, _&&_, _||_, not}
 use mathlib.Core.List.{List}
 use lib.Dec.{leb, eqb}
 use lib.ListN.{length, replicate}
 use Rattle.model.specs.View.{View, sizeAt, deadlineAt, onSheet, energyOf, greatestEnergy, M}
-use Rattle.model.specs.Plan.{byteOfQueue, rowLines}
+use Rattle.model.specs.Plan.{noSpeed, byteOfQueue, rowLines}
 use Rattle.model.specs.Queue.{Queue, total, positions, queueIn, placesOf, bearable, bearableIn, oneSlot}
-use Rattle.model.specs.Refusal.{sheetLines, valueLimit}
 use Rattle.model.specs.Tests.{Lines, line, _⨾_, firstOf, anywhere}
 
 -- "A state has a queue, a slot number and the energy spent": the queue as it stands in its six places
@@ -34,26 +33,10 @@ queueRight s x = bearableIn (M s) (s .bound) (x .queue)
 unfoldable pub stateRight : View → State → Bool
 stateRight s x = queueRight s x && leb (x .slot) (s .horizon) && leb (x .energy) (x .slot * greatestEnergy s)
 
--- "Start takes a sheet and a queue and gives slot 0, energy 0"; "Start: 4 to 10, 13". The queue is the given state's; its slot and energy
--- are not looked at
+-- a plan byte
 
-pub record Stepped : Type 0 where
-  pub number : ℕ
-  pub state : State
-
-unfoldable pub startLines : View → State → Lines
-startLines s x = sheetLines valueLimit s ⨾ line 13 (queueRight s x)
-
-abbrev pub startRefusal : View → State → ℕ
-startRefusal s x = firstOf (startLines s x)
-
--- "A refused start gives an all-zero state"
-unfoldable pub start : View → State → Stepped
-start s x =
-    let number = startRefusal s x in
-    record { number = number; state = cond (eqb number 0) (record { queue = x .queue; slot = 0; energy = 0 }) zeroState }
-
--- "Speed reads the plan byte at the state's slot and queue number". "The plan bytes are lent and may be damaged": they are any list
+-- 01: "Speed reads the plan byte at the state's slot and queue number". [1]: "The separate speed call is withdrawn"; start and advance read
+-- it. "The plan bytes are lent and may be damaged": they are any list
 unfoldable pub planByte : View → List ℕ → State → ℕ
 planByte s plan x = byteOfQueue s plan (x .slot) (queueOf s x)
 
@@ -61,26 +44,63 @@ planByte s plan x = byteOfQueue s plan (x .slot) (queueOf s x)
 unfoldable pub byteRight : View → State → ℕ → Bool
 byteRight s x byte = onSheet s byte && leb (total (queueOf s x) 1) byte
 
--- "Speed: 4 to 10, 11, 13, 14, 16"; "14: the state's slot is T"
-unfoldable pub speedLines : View → List ℕ → State → Lines
-speedLines s plan x =
-    rowLines s (length plan) ⨾
-    line 13 (stateRight s x) ⨾
-    line 14 (not (eqb (x .slot) (s .horizon))) ⨾
-    line 16 (byteRight s x (planByte s plan x))
+-- the slot that begins
 
-abbrev pub speedRefusal : View → List ℕ → State → ℕ
-speedRefusal s plan x = firstOf (speedLines s plan x)
+-- "14: the state's slot is T"
+abbrev pub atHorizon : View → State → Bool
+atHorizon s x = eqb (x .slot) (s .horizon)
 
-pub record Told : Type 0 where
+-- [1]: "the speed of the slot that begins, or 255 when the horizon is reached"
+unfoldable pub speedNow : View → List ℕ → State → ℕ
+speedNow s plan x = cond (atHorizon s x) noSpeed (planByte s plan x)
+
+-- [1]: "then 16 for the new slot". At the horizon no slot begins, and whatever stands there is right
+unfoldable pub beginsRight : View → List ℕ → State → Bool
+beginsRight s plan x = atHorizon s x || byteRight s x (planByte s plan x)
+
+-- what start and advance answer. [1]: "Start now takes the plan and answers the first speed; advance answers the speed of the slot that
+-- begins"
+pub record Stepped : Type 0 where
   pub number : ℕ
+  pub state : State
   pub speed : ℕ
 
--- "A refused speed is 0"
-unfoldable pub speed : View → List ℕ → State → Told
-speed s plan x =
-    let number = speedRefusal s plan x in
-    record { number = number; speed = cond (eqb number 0) (planByte s plan x) 0 }
+-- by its number: where that is 0, a state and the speed of the slot that begins there; else another state, and [1]: "a refused call's speed
+-- is 0"
+abbrev pub steppedBy : (number : ℕ) (given : State) (speed : ℕ) (refused : State) → Stepped
+steppedBy number given speed refused =
+    record { number = number; state = cond (eqb number 0) given refused; speed = cond (eqb number 0) speed 0 }
+
+-- start
+
+-- "Start takes a sheet and a queue and gives slot 0, energy 0". The queue is the given state's; its slot and energy are not looked at
+abbrev pub begun : State → State
+begun x = record { queue = x .queue; slot = 0; energy = 0 }
+
+-- 01: "Start: 4 to 10, 13". [1]: "start checks 4 to 10, 11, 13, 16". T is at least 1, so that slot 0 begins
+unfoldable pub startLines : View → List ℕ → State → Lines
+startLines s plan x = rowLines s (length plan) ⨾ line 13 (queueRight s x) ⨾ line 16 (beginsRight s plan (begun x))
+
+abbrev pub startRefusal : View → List ℕ → State → ℕ
+startRefusal s plan x = firstOf (startLines s plan x)
+
+-- "A refused start gives an all-zero state"
+unfoldable pub start : View → List ℕ → State → Stepped
+start s plan x = steppedBy (startRefusal s plan x) (begun x) (speedNow s plan (begun x)) zeroState
+
+-- advance
+
+-- the tests of the slot that ends. 01: "Speed: 4 to 10, 11, 13, 14, 16. Advance: the same". [1] withdraws speed, and advance keeps them: the
+-- plan is lent, and may have been damaged since its byte was answered
+unfoldable pub endingLines : View → List ℕ → State → Lines
+endingLines s plan x =
+    rowLines s (length plan) ⨾
+    line 13 (stateRight s x) ⨾
+    line 14 (not (atHorizon s x)) ⨾
+    line 16 (byteRight s x (planByte s plan x))
+
+abbrev pub endingRefusal : View → List ℕ → State → ℕ
+endingRefusal s plan x = firstOf (endingLines s plan x)
 
 -- the entry at a place has this size and this deadline
 abbrev pub isEntryAt : View → ℕ → ℕ → ℕ → Bool
@@ -110,16 +130,18 @@ nextLines s next = line 17 (bearable (M s) (queueOf s next)) ⨾ line 18 (leb (n
 abbrev pub nextRefusal : View → State → ℕ
 nextRefusal s next = firstOf (nextLines s next)
 
--- "Advance: the same, then 15, 17, 18"
+-- 01: "Advance: the same, then 15, 17, 18". [1]: "advance ends with 17, 18, then 16 for the new slot"
 unfoldable pub advanceLines : View → List ℕ → State → ℕ → ℕ → Lines
 advanceLines s plan x size deadline =
-    speedLines s plan x ⨾ line 15 (isEntry s size deadline) ⨾ nextLines s (moved s x (planByte s plan x) size deadline)
+    let next = moved s x (planByte s plan x) size deadline in
+    endingLines s plan x ⨾ line 15 (isEntry s size deadline) ⨾ nextLines s next ⨾ line 16 (beginsRight s plan next)
 
 abbrev pub advanceRefusal : View → List ℕ → State → ℕ → ℕ → ℕ
 advanceRefusal s plan x size deadline = firstOf (advanceLines s plan x size deadline)
 
--- "a refused advance hands back the state it got"
+-- 01: "a refused advance hands back the state it got". [1]: "If the new slot's plan byte is wrong, the whole advance is refused and the old
+-- state comes back"
 unfoldable pub advance : View → List ℕ → State → ℕ → ℕ → Stepped
 advance s plan x size deadline =
-    let number = advanceRefusal s plan x size deadline in
-    record { number = number; state = cond (eqb number 0) (moved s x (planByte s plan x) size deadline) x }
+    let next = moved s x (planByte s plan x) size deadline in
+    steppedBy (advanceRefusal s plan x size deadline) next (speedNow s plan next) x

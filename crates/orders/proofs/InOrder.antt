@@ -118,10 +118,17 @@ fails-so so (line number passes) n p f = subst (λ (m : ℕ). T (so m)) (f .1) p
 fails-so so (l ⨾ m) n p f = ⊎-elim (λ g. fails-so so l n (p .0) g) (λ g. fails-so so m n (p .1) (g .1)) f
 fails-so so (table f k) n p x = fails-so so (f (x .0)) n (p (x .0)) (x .3)
 
--- so a number that fails first, and stands in none of the first lines, fails first in the others
+-- so a number that stands in no line does not fail first
+fails-not : (n : ℕ) (l : Lines) → Without n l → FailsFirst l n → ⊥
+fails-not n l p f = subst (λ (b : Bool). T (not b)) (eq-eqb n n refl) (fails-so (λ m. not (eqb m n)) l n p f)
+
+-- one that fails first, and stands in none of the first lines, fails first in the others
 pub later : (n : ℕ) (l m : Lines) → Without n l → FailsFirst (l ⨾ m) n → AllPass l × FailsFirst m n
-later n l m p =
-    ⊎-elim (λ f. absurd (subst (λ (b : Bool). T (not b)) (eq-eqb n n refl) (fails-so (λ m. not (eqb m n)) l n p f))) (λ f. f)
+later n l m p = ⊎-elim (λ f. absurd (fails-not n l p f)) (λ f. f)
+
+-- and one that stands in none of the last lines fails first in the others
+pub earlier : (n : ℕ) (l m : Lines) → Without n m → FailsFirst (l ⨾ m) n → FailsFirst l n
+earlier n l m p = ⊎-elim (λ f. f) (λ f. absurd (fails-not n m p (f .1)))
 
 -- whether a number is one of those listed
 abbrev pub among : List ℕ → ℕ → Bool

@@ -1,20 +1,17 @@
-// The state and its three calls: `start`, `speed` and `advance`.
+// The state and its two calls, one for each slot: `start` and `advance`.
+use crate::speeds::beginning;
+use crate::speeds::ending;
 use crate::step::moved;
-use crate::tests::byte_right;
-use crate::tests::state_right;
 use counts::table;
-use layout::byte_of_queue;
 use layout::row_refusal;
 use lookups::is_entry;
 use model::Sheet;
-use sheets::sheet_refusal;
 use sheets::sizes_of;
 use slot::bearable_in;
 ghost use mathlib.Core.Path.{_≡_};
 ghost use Rattle.model.specs.View.{viewOf};
-ghost use Rattle.model.specs.Stepper.{zeroState, start, speed, advance};
-ghost use Rattle.counts.specs.Counts.{HoldsCounts};
-ghost use Rattle.stepper.specs.Calls.{stateOf, IsStepped, IsTold};
+ghost use Rattle.model.specs.Stepper.{zeroState, start, advance};
+ghost use Rattle.stepper.specs.Calls.{stateOf, IsStepped};
 
 // A queue in its six places, the number of the slot, and the energy spent.
 pub struct State {
@@ -23,78 +20,77 @@ pub struct State {
     pub energy: u32,
 }
 
-// What a start or an advance answers: its number, and the state to go on from.
+// What a start or an advance answers: its number, the state to go on from, and the speed of the slot that begins there.
 pub struct Stepped {
     pub number: u32,
     pub state: State,
-}
-
-// What a speed call answers: its number, and the speed.
-pub struct Told {
-    pub number: u32,
     pub speed: u32,
 }
 
 impl State {
-    // Begins a run from the state's queue, at slot 0 and with no energy spent; the slot and energy that it had are not looked at. A
-    // refused start gives an all-zero state.
-    pub fn start(self, sheet: Sheet) -> Stepped
-        ensures { λ r. ⌜ IsStepped (start (viewOf sheet) (stateOf self)) (r .number) (r .state) ⌝ }
+    // Begins a run from the state's queue, at slot 0 and with no energy spent, and answers the first speed; the slot and energy that the
+    // state had are not looked at. A refused start gives an all-zero state and speed 0.
+    pub fn start(self, sheet: Sheet, plan: &[u8]) -> Stepped
+        ensures { λ r. ⌜ IsStepped (start (viewOf sheet) (now (plan .entry)) (stateOf self)) (r .number) (r .state) (r .speed) ⌝ }
     {
         let counts = table();
-        let number = sheet_refusal(&counts, sheet);
+        let number = row_refusal(&counts, sheet, plan.len());
         if number != 0 {
-            return Stepped {
-                number,
-                state: zero_state(),
-            };
+            return refused(number, zero_state());
         }
         let sizes = sizes_of(&counts, sheet);
         let queue = self.queue;
         if !bearable_in(sizes.largest, sizes.bound, queue) {
-            return Stepped {
-                number: 13,
-                state: zero_state(),
-            };
+            return refused(13, zero_state());
+        }
+        let state = State {
+            queue,
+            slot: 0,
+            energy: 0,
+        };
+        let begun = beginning(&counts, sheet, sizes, plan, state);
+        if begun.number != 0 {
+            return refused(begun.number, zero_state());
         }
         Stepped {
             number: 0,
-            state: State {
-                queue,
-                slot: 0,
-                energy: 0,
-            },
+            state,
+            speed: begun.speed,
         }
     }
 
-    // The speed of the slot that begins: the plan byte at the state's slot and queue number. A refused speed is 0.
-    pub fn speed(self, sheet: Sheet, plan: &[u8]) -> Told
-        ensures { λ r. ⌜ IsTold (speed (viewOf sheet) (now (plan .entry)) (stateOf self)) (r .number) (r .speed) ⌝ }
-    {
-        let counts = table();
-        speed_of(&counts, sheet, plan, self)
-    }
-
-    // Runs the slot at the plan's speed and then takes the arrival. A refused advance hands back the state that it got.
+    // Runs the slot at the plan's speed, then takes the arrival, and answers the speed of the slot that begins, 255 at the horizon. A
+    // refused advance hands back the state that it got, and speed 0.
     pub fn advance(self, sheet: Sheet, plan: &[u8], size: u32, deadline: u32) -> Stepped
-        ensures { λ r. ⌜ IsStepped (advance (viewOf sheet) (now (plan .entry)) (stateOf self) size deadline) (r .number) (r .state) ⌝ }
+        ensures { λ r. ⌜ IsStepped (advance (viewOf sheet) (now (plan .entry)) (stateOf self) size deadline)
+            (r .number) (r .state) (r .speed) ⌝ }
     {
         let counts = table();
-        let told = speed_of(&counts, sheet, plan, self);
-        if told.number != 0 {
-            return Stepped {
-                number: told.number,
-                state: self,
-            };
-        }
-        if !is_entry(sheet, size, deadline) {
-            return Stepped {
-                number: 15,
-                state: self,
-            };
+        let number = row_refusal(&counts, sheet, plan.len());
+        if number != 0 {
+            return refused(number, self);
         }
         let sizes = sizes_of(&counts, sheet);
-        moved(sheet, sizes, self, told.speed, size, deadline)
+        let ended = ending(&counts, sheet, sizes, plan, self);
+        if ended.number != 0 {
+            return refused(ended.number, self);
+        }
+        if !is_entry(sheet, size, deadline) {
+            return refused(15, self);
+        }
+        let next = moved(sheet, sizes, self, ended.speed, size, deadline);
+        if next.number != 0 {
+            return refused(next.number, self);
+        }
+        let begun = beginning(&counts, sheet, sizes, plan, next.state);
+        if begun.number != 0 {
+            return refused(begun.number, self);
+        }
+        Stepped {
+            number: 0,
+            state: next.state,
+            speed: begun.speed,
+        }
     }
 }
 
@@ -109,36 +105,13 @@ fn zero_state() -> State
     }
 }
 
-// The speed of the slot that begins, after the tests that both calls make: 4 to 10, 11, 13, 14 and 16.
-fn speed_of(counts: &[u32; 2352], sheet: Sheet, plan: &[u8], state: State) -> Told
-    requires { ⌜ HoldsCounts (now counts) ⌝ }
-    ensures { λ r. ⌜ IsTold (speed (viewOf sheet) (now (plan .entry)) (stateOf state)) (r .number) (r .speed) ⌝ }
+// What a refused call answers: its number, this state, and speed 0.
+fn refused(number: u32, state: State) -> Stepped
+    ensures { λ r. ⌜ (r .number ≡ number) × (r .state ≡ state) × (r .speed ≡ 0) ⌝ }
 {
-    let number = row_refusal(counts, sheet, plan.len());
-    if number != 0 {
-        return refused(number);
+    Stepped {
+        number,
+        state,
+        speed: 0,
     }
-    let sizes = sizes_of(counts, sheet);
-    if !state_right(sheet, sizes, state) {
-        return refused(13);
-    }
-    if state.slot == sheet.horizon {
-        return refused(14);
-    }
-    let queue = state.queue;
-    let byte = byte_of_queue(counts, sizes, plan, state.slot, queue);
-    if !byte_right(sheet, state, byte) {
-        return refused(16);
-    }
-    Told {
-        number: 0,
-        speed: byte,
-    }
-}
-
-// What a refused speed call answers.
-fn refused(number: u32) -> Told
-    ensures { λ r. ⌜ (r .number ≡ number) × (r .speed ≡ 0) ⌝ }
-{
-    Told { number, speed: 0 }
 }

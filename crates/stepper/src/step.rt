@@ -1,6 +1,5 @@
 // What a slot does to a state.
 use crate::state::State;
-use crate::state::Stepped;
 use lookups::energy_of;
 use model::Sheet;
 use sheets::Sizes;
@@ -11,13 +10,19 @@ ghost use Prim.Native.Nat.{_≤_};
 ghost use lib.Dec.{T};
 ghost use Rattle.model.specs.View.{viewOf, onSheet};
 ghost use Rattle.model.specs.Refusal.{fieldsRefusal};
-ghost use Rattle.model.specs.Stepper.{stateRight};
+ghost use Rattle.model.specs.Stepper.{stateRight, moved};
 ghost use Rattle.sheets.specs.Sizes.{Sized};
-ghost use Rattle.stepper.specs.Calls.{stateOf, IsStepped};
-ghost use Rattle.stepper.specs.Parts.{movedOrRefused};
+ghost use Rattle.stepper.specs.Calls.{stateOf};
+ghost use Rattle.stepper.specs.Parts.{IsMoved};
 
 // The most energy that a state can hold: an advance that would exceed it is refused with 18.
 const MOST_ENERGY: u32 = 4294967295;
+
+// A number and, where that is 0, the next state.
+pub struct Moved {
+    pub number: u32,
+    pub state: State,
+}
 
 // The state after a slot at this speed and an arrival; or 17 or 18, with the state as it was.
 pub fn moved(
@@ -27,10 +32,10 @@ pub fn moved(
     speed: u32,
     size: u32,
     deadline: u32,
-) -> Stepped
+) -> Moved
     requires { ⌜ (fieldsRefusal (viewOf sheet) ≡ 0) × Sized (viewOf sheet) sizes × T (stateRight (viewOf sheet) (stateOf state)) ×
         T (onSheet (viewOf sheet) speed) × (size ≤ 255) ⌝ }
-    ensures { λ r. ⌜ IsStepped (movedOrRefused (viewOf sheet) (stateOf state) speed size deadline) (r .number) (r .state) ⌝ }
+    ensures { λ r. ⌜ IsMoved (viewOf sheet) (moved (viewOf sheet) (stateOf state) speed size deadline) (r .number) (r .state) ⌝ }
 {
     let waiting = state.queue;
     let queue = one_slot(sizes.bound, waiting, speed, size, deadline);
@@ -39,14 +44,14 @@ pub fn moved(
     next.queue = queue;
     next.slot = slot + 1;
     if !bearable(sizes.largest, sizes.bound, queue) {
-        return Stepped { number: 17, state };
+        return Moved { number: 17, state };
     }
     let spent = energy_of(sheet, speed);
     if MOST_ENERGY - state.energy < spent {
-        return Stepped { number: 18, state };
+        return Moved { number: 18, state };
     }
     next.energy = state.energy + spent;
-    Stepped {
+    Moved {
         number: 0,
         state: next,
     }
