@@ -1,62 +1,92 @@
--- What the calls answer, from what the model's definitions say.
+-- What the functions answer, from what the model's definitions say.
 use Prim.Native.Nat.{ℕ, _+_, _≤_, _<_}
 use mathlib.Core.Path.{_≡_, sym, ap, _∙_}
 use mathlib.Core.Bool.{Bool, true, false, cond}
 use mathlib.Core.List.{List}
 use native.Mathlib.Omega.{arith}
 use borrow.Author.Tests.{le-leb, lt-leb, ne-eqb}
-use lib.Dec.{leb, eqb}
-use Rattle.laws.proofs.Stepper.{speed-by, moved-by, advance-by, advance-refusal-next}
-use Rattle.model.proofs.Tests.{check-true, check-false, then-passes, then-fails}
+use lib.Dec.{T, leb, eqb}
+use Rattle.laws.proofs.Stepper.{start-by, advance-by, moved-by}
+use Rattle.model.proofs.Tests.{check-zero, check-true, check-false, then-left, then-passes, then-fails}
 use Rattle.model.specs.View.{View, energyOf, M}
 use Rattle.model.specs.Queue.{queueIn, placesOf, bearable, oneSlot}
-use Rattle.model.specs.Tests.{_then_}
 use Rattle.model.specs.Stepper as model
+use Rattle.model.specs.Tests.{check}
 use Rattle.sheets.specs.Sizes.{Sized}
 use Rattle.sheets.specs.declared.sizes.Sizes.{Sizes}
 use Rattle.sheets.proofs.Measures.{sized-same}
-use Rattle.stepper.specs.Calls.{stateOf, IsStepped, IsTold}
-use Rattle.stepper.specs.Parts.{movedOrRefused}
+use Rattle.stepper.specs.Calls.{stateOf, IsStepped}
+use Rattle.stepper.specs.Parts.{toldBy, IsTold}
 use Rattle.stepper.specs.declared.state.State.{State}
-
--- a start or an advance, by what the model says
-pub stepped-as : {said : model.Stepped} {number : ℕ} {given : model.State} (state : State) →
-    said ≡ record { number = number; state = given } → stateOf state ≡ given → IsStepped said number state
-stepped-as state e same =
-    record { number-is = sym (ap (λ (r : model.Stepped). r .number) e); state-is = same ∙ sym (ap (λ (r : model.Stepped). r .state) e) }
+use Rattle.stepper.specs.declared.state.Stepped.{Stepped}
 
 -- where a number is not 0, what a refusal gives is given
-pub refused-gives : {A : Type 0} {number : ℕ} (done refused : A) → (number ≡ 0 → ⊥) → refused ≡ cond (eqb number 0) done refused
+refused-gives : {A : Type 0} {number : ℕ} (done refused : A) → (number ≡ 0 → ⊥) → refused ≡ cond (eqb number 0) done refused
 refused-gives {number = number} done refused some = sym (ap (λ (b : Bool). cond b done refused) (ne-eqb number 0 some))
 
--- a speed call that is refused answers the number and 0
-pub told-refused : (s : View) (plan : List ℕ) (x : model.State) {refusal number speed : ℕ} → model.speedRefusal s plan x ≡ refusal →
-    (refusal ≡ 0 → ⊥) → (number ≡ refusal) × (speed ≡ 0) → IsTold (model.speed s plan x) number speed
-told-refused s plan x e some answer =
-    let said = speed-by s plan x e in
+-- a number and a speed that are told, by the number
+
+-- one that is not 0, and speed 0
+pub told-refused : (n speed : ℕ) {number : ℕ} → n ≡ number → (number ≡ 0 → ⊥) → IsTold (toldBy n speed) number 0
+told-refused n speed e some = record { number-is = sym e; speed-is = refused-gives speed 0 (λ z. some (sym e ∙ z)) }
+
+-- 0, and the speed
+pub told-done : (n speed : ℕ) {told : ℕ} → n ≡ 0 → told ≡ speed → IsTold (toldBy n speed) 0 told
+told-done n speed e same = record { number-is = sym e; speed-is = same ∙ sym (ap (λ (m : ℕ). cond (eqb m 0) speed 0) e) }
+
+-- what was told, by the number
+
+-- where it is 0, so is what was tested, and the speed is told
+pub told-zero : (n speed : ℕ) {number told : ℕ} → IsTold (toldBy n speed) number told → number ≡ 0 → (n ≡ 0) × (told ≡ speed)
+told-zero n speed is e =
+    let zero = sym (is .number-is) ∙ e in
+    (zero, is .speed-is ∙ ap (λ (m : ℕ). cond (eqb m 0) speed 0) zero)
+
+-- what a call answers, by its number
+
+-- one that is not 0: the state that a refusal gives, and speed 0
+stepped-refused : (given refused : model.State) (speed : ℕ) {said : model.Stepped} {number : ℕ} →
+    said ≡ model.steppedBy number given speed refused → (number ≡ 0 → ⊥) → {answer : Stepped} {state : State} →
+    (answer .number ≡ number) × (answer .state ≡ state) × (answer .speed ≡ 0) → stateOf state ≡ refused →
+    IsStepped said (answer .number) (answer .state) (answer .speed)
+stepped-refused given refused speed e some (number-is, state-is, speed-is) same =
     record {
-      number-is = answer .0 ∙ sym (ap (λ (r : model.Told). r .number) said);
-      speed-is = answer .1 ∙ refused-gives (model.planByte s plan x) 0 some ∙ sym (ap (λ (r : model.Told). r .speed) said);
+      number-is = number-is ∙ sym (ap (λ (r : model.Stepped). r .number) e);
+      state-is = ap stateOf state-is ∙ same ∙ refused-gives given refused some ∙ sym (ap (λ (r : model.Stepped). r .state) e);
+      speed-is = speed-is ∙ refused-gives speed 0 some ∙ sym (ap (λ (r : model.Stepped). r .speed) e);
     }
 
--- one that is not refused answers 0 and the plan byte
-pub told-done : (s : View) (plan : List ℕ) (x : model.State) {speed : ℕ} → model.speedRefusal s plan x ≡ 0 →
-    speed ≡ model.planByte s plan x → IsTold (model.speed s plan x) 0 speed
-told-done s plan x e same =
-    let said = speed-by s plan x e in
-    record { number-is = sym (ap (λ (r : model.Told). r .number) said); speed-is = same ∙ sym (ap (λ (r : model.Told). r .speed) said) }
+-- 0: the state to go on from, and the speed
+pub stepped-done : {given : model.State} {speed : ℕ} {said : model.Stepped} →
+    said ≡ record { number = 0; state = given; speed = speed } →
+    {state : State} {told : ℕ} → stateOf state ≡ given → told ≡ speed → IsStepped said 0 state told
+stepped-done e state-is speed-is =
+    record {
+      number-is = sym (ap (λ (r : model.Stepped). r .number) e);
+      state-is = state-is ∙ sym (ap (λ (r : model.Stepped). r .state) e);
+      speed-is = speed-is ∙ sym (ap (λ (r : model.Stepped). r .speed) e);
+    }
 
--- what is left of an advance
+module _ (s : View) (plan : List ℕ) (x : model.State) where
+  -- a start that is refused
+  pub start-refused : {number : ℕ} → model.startRefusal s plan x ≡ number → (number ≡ 0 → ⊥) → {answer : Stepped} {state : State} →
+      (answer .number ≡ number) × (answer .state ≡ state) × (answer .speed ≡ 0) → stateOf state ≡ model.zeroState →
+      IsStepped (model.start s plan x) (answer .number) (answer .state) (answer .speed)
+  start-refused e = stepped-refused (model.begun x) model.zeroState (model.speedNow s plan (model.begun x)) (start-by s plan x e)
+
+  -- an advance that is refused
+  pub advance-refused : (size deadline : ℕ) {number : ℕ} → model.advanceRefusal s plan x size deadline ≡ number → (number ≡ 0 → ⊥) →
+      {answer : Stepped} {state : State} → (answer .number ≡ number) × (answer .state ≡ state) × (answer .speed ≡ 0) → stateOf state ≡ x →
+      IsStepped (model.advance s plan x size deadline) (answer .number) (answer .state) (answer .speed)
+  advance-refused size deadline e =
+      let next = model.moved s x (model.planByte s plan x) size deadline in
+      stepped-refused next x (model.speedNow s plan next) (advance-by s plan x size deadline e)
+
+-- the next state
 
 module _ (s : View) (x : model.State) (speed size deadline : ℕ) where
   abbrev next : model.State
   next = model.moved s x speed size deadline
-
-  -- by its number
-  moved-by-number : {number : ℕ} → model.nextRefusal s next ≡ number →
-      movedOrRefused s x speed size deadline ≡ record { number = number; state = cond (eqb number 0) next x }
-  unfolding movedOrRefused
-  moved-by-number e = λ i. record { number = e i; state = cond (eqb (e i) 0) next x }
 
   -- what the code asked of the queue that it worked out is what 17 asks
   pub asked-of-next : {sizes : Sizes} → Sized s sizes → {queue : List ℕ} {answer : Bool} →
@@ -71,30 +101,24 @@ module _ (s : View) (x : model.State) (speed size deadline : ℕ) where
   next-energy : next .energy ≡ x .energy + energyOf s speed
   next-energy = ap (λ (y : model.State). y .energy) (moved-by s x speed size deadline)
 
-  -- 17: the state stays
-  pub moved-17 : bearable (M s) (model.queueOf s next) ≡ false → movedOrRefused s x speed size deadline ≡ record { number = 17; state = x }
-  moved-17 wrong = moved-by-number (then-fails (bearable (M s) (model.queueOf s next)) 16 _ wrong)
+  -- 17
+  pub next-17 : bearable (M s) (model.queueOf s next) ≡ false → model.nextRefusal s next ≡ 17
+  next-17 wrong = then-fails (bearable (M s) (model.queueOf s next)) 16 _ wrong
 
-  -- 18: the state stays
-  pub moved-18 : bearable (M s) (model.queueOf s next) ≡ true → model.energyLimit < x .energy + energyOf s speed →
-      movedOrRefused s x speed size deadline ≡ record { number = 18; state = x }
-  moved-18 right over =
-      moved-by-number
-      (then-passes (bearable (M s) (model.queueOf s next)) 17 _ right ∙
-      check-false (leb (next .energy) model.energyLimit) 18 (lt-leb (next .energy) model.energyLimit (omega (arith, next-energy))))
+  -- 18
+  pub next-18 : bearable (M s) (model.queueOf s next) ≡ true → model.energyLimit < x .energy + energyOf s speed → model.nextRefusal s next ≡ 18
+  next-18 right over =
+      then-passes (bearable (M s) (model.queueOf s next)) 17 _ right ∙
+      check-false (leb (next .energy) model.energyLimit) 18 (lt-leb (next .energy) model.energyLimit (omega (arith, next-energy)))
 
-  -- neither: the next state
-  pub moved-0 : bearable (M s) (model.queueOf s next) ≡ true → x .energy + energyOf s speed ≤ model.energyLimit →
-      movedOrRefused s x speed size deadline ≡ record { number = 0; state = next }
-  moved-0 right small =
-      moved-by-number
-      (then-passes (bearable (M s) (model.queueOf s next)) 17 _ right ∙
-      check-true (leb (next .energy) model.energyLimit) 18 (le-leb (next .energy) model.energyLimit (omega (arith, next-energy))))
+  -- neither
+  pub next-0 : bearable (M s) (model.queueOf s next) ≡ true → x .energy + energyOf s speed ≤ model.energyLimit → model.nextRefusal s next ≡ 0
+  next-0 right small =
+      then-passes (bearable (M s) (model.queueOf s next)) 17 _ right ∙
+      check-true (leb (next .energy) model.energyLimit) 18 (le-leb (next .energy) model.energyLimit (omega (arith, next-energy)))
 
-  -- where the speed is the plan's and the arrival an entry, this is the advance
-  pub moved-advances : (plan : List ℕ) → speed ≡ model.planByte s plan x → model.speedRefusal s plan x ≡ 0 →
-      model.isEntry s size deadline ≡ true → movedOrRefused s x speed size deadline ≡ model.advance s plan x size deadline
-  unfolding movedOrRefused
-  moved-advances plan e passed entry =
-      ap (λ (byte : ℕ). movedOrRefused s x byte size deadline) e ∙
-      sym (advance-by s plan x size deadline (advance-refusal-next s plan x size deadline passed entry))
+-- where neither is told, the next queue is bearable
+pub next-bearable : (s : View) (next : model.State) → model.nextRefusal s next ≡ 0 → T (bearable (M s) (model.queueOf s next))
+next-bearable s next e =
+    let first = bearable (M s) (model.queueOf s next) in
+    check-zero first 16 (then-left (check first 17) _ e)

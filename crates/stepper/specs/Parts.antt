@@ -8,6 +8,7 @@ use lib.ListN.{length}
 use Rattle.model.specs.View.{View}
 use Rattle.model.specs.Plan.{rowRefusal}
 use Rattle.model.specs.Stepper as model
+use Rattle.model.specs.Tests.{check}
 use Rattle.counts.specs.Counts.{HoldsCounts}
 use Rattle.sheets.specs.Sizes.{Sized}
 use Rattle.sheets.specs.declared.sizes.Sizes.{Sizes}
@@ -27,6 +28,20 @@ pub record Told : Type 0 where
 
 abbrev pub toldBy : (number speed : ℕ) → Told
 toldBy number speed = record { number = number; speed = cond (eqb number 0) speed 0 }
+
+-- the plan byte of the slot that a state is at, after its test
+abbrev pub toldByte : View → List ℕ → model.State → Told
+toldByte s plan x =
+    let byte = model.planByte s plan x in
+    toldBy (check (model.byteRight s x byte) 16) byte
+
+-- of the slot that ends, after all its tests
+abbrev pub toldEnding : View → List ℕ → model.State → Told
+toldEnding s plan x = toldBy (model.endingRefusal s plan x) (model.planByte s plan x)
+
+-- of the slot that begins, after its test, or 255 at the horizon
+abbrev pub toldBeginning : View → List ℕ → model.State → Told
+toldBeginning s plan x = toldBy (check (model.beginsRight s plan x) 16) (model.speedNow s plan x)
 
 -- this number and this speed are told
 pub record IsTold (said : Told) (number speed : ℕ) : Type 0 where

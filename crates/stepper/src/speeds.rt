@@ -9,10 +9,9 @@ ghost use Prim.Native.Nat.{_≤_, _<_};
 ghost use lib.Dec.{T};
 ghost use Rattle.model.specs.View.{viewOf, M};
 ghost use Rattle.model.specs.Queue.{bearable};
-ghost use Rattle.model.specs.Stepper.{queueOf, planByte, byteRight, speedNow, beginsRight, endingRefusal};
-ghost use Rattle.model.specs.Tests.{check};
+ghost use Rattle.model.specs.Stepper.{queueOf};
 ghost use Rattle.stepper.specs.Calls.{stateOf};
-ghost use Rattle.stepper.specs.Parts.{toldBy, IsTold, Ready};
+ghost use Rattle.stepper.specs.Parts.{Ready, toldByte, toldEnding, toldBeginning, IsTold};
 
 // What stands for a speed where no slot begins.
 const NO_SPEED: u32 = 255;
@@ -24,16 +23,9 @@ pub struct Told {
 }
 
 // The speed of the slot that ends, after the tests of it: 13, 14 and 16.
-pub fn ending(
-    counts: &[u32; 2352],
-    sheet: Sheet,
-    sizes: Sizes,
-    plan: &[u8],
-    state: State,
-) -> Told
+pub fn ending(counts: &[u32; 2352], sheet: Sheet, sizes: Sizes, plan: &[u8], state: State) -> Told
     requires { ⌜ Ready (now counts) (viewOf sheet) sizes (now plan) ⌝ }
-    ensures { λ r. ⌜ let s = viewOf sheet in let x = stateOf state in let bytes = now (plan .entry) in
-        IsTold (toldBy (endingRefusal s bytes x) (planByte s bytes x)) (r .number) (r .speed) ⌝ }
+    ensures { λ r. ⌜ IsTold (toldEnding (viewOf sheet) (now (plan .entry)) (stateOf state)) (r .number) (r .speed) ⌝ }
 {
     if !state_right(sheet, sizes, state) {
         return Told {
@@ -60,8 +52,7 @@ pub fn beginning(
 ) -> Told
     requires { ⌜ Ready (now counts) (viewOf sheet) sizes (now plan) ×
         T (bearable (M (viewOf sheet)) (queueOf (viewOf sheet) (stateOf state))) × (state .slot ≤ sheet .horizon) ⌝ }
-    ensures { λ r. ⌜ let s = viewOf sheet in let x = stateOf state in let bytes = now (plan .entry) in
-        IsTold (toldBy (check (beginsRight s bytes x) 16) (speedNow s bytes x)) (r .number) (r .speed) ⌝ }
+    ensures { λ r. ⌜ IsTold (toldBeginning (viewOf sheet) (now (plan .entry)) (stateOf state)) (r .number) (r .speed) ⌝ }
 {
     if state.slot == sheet.horizon {
         return Told {
@@ -73,17 +64,10 @@ pub fn beginning(
 }
 
 // The plan byte of the slot that a state is at, or 16: for the slot that ends and for the one that begins.
-fn speed_of(
-    counts: &[u32; 2352],
-    sheet: Sheet,
-    sizes: Sizes,
-    plan: &[u8],
-    state: State,
-) -> Told
+fn speed_of(counts: &[u32; 2352], sheet: Sheet, sizes: Sizes, plan: &[u8], state: State) -> Told
     requires { ⌜ Ready (now counts) (viewOf sheet) sizes (now plan) ×
         T (bearable (M (viewOf sheet)) (queueOf (viewOf sheet) (stateOf state))) × (state .slot < sheet .horizon) ⌝ }
-    ensures { λ r. ⌜ let s = viewOf sheet in let x = stateOf state in let byte = planByte s (now (plan .entry)) x in
-        IsTold (toldBy (check (byteRight s x byte) 16) byte) (r .number) (r .speed) ⌝ }
+    ensures { λ r. ⌜ IsTold (toldByte (viewOf sheet) (now (plan .entry)) (stateOf state)) (r .number) (r .speed) ⌝ }
 {
     let queue = state.queue;
     let byte = byte_of_queue(counts, sizes, plan, state.slot, queue);

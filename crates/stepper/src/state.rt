@@ -78,17 +78,18 @@ impl State {
         if !is_entry(sheet, size, deadline) {
             return refused(15, self);
         }
-        let next = moved(sheet, sizes, self, ended.speed, size, deadline);
-        if next.number != 0 {
-            return refused(next.number, self);
+        let outcome = moved(sheet, sizes, self, ended.speed, size, deadline);
+        if outcome.number != 0 {
+            return refused(outcome.number, self);
         }
-        let begun = beginning(&counts, sheet, sizes, plan, next.state);
+        let next = outcome.state;
+        let begun = beginning(&counts, sheet, sizes, plan, next);
         if begun.number != 0 {
             return refused(begun.number, self);
         }
         Stepped {
             number: 0,
-            state: next.state,
+            state: next,
             speed: begun.speed,
         }
     }

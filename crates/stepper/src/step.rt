@@ -19,7 +19,7 @@ ghost use Rattle.stepper.specs.Parts.{IsMoved};
 const MOST_ENERGY: u32 = 4294967295;
 
 // A number and, where that is 0, the next state.
-pub struct Moved {
+pub struct NextState {
     pub number: u32,
     pub state: State,
 }
@@ -32,7 +32,7 @@ pub fn moved(
     speed: u32,
     size: u32,
     deadline: u32,
-) -> Moved
+) -> NextState
     requires { ⌜ (fieldsRefusal (viewOf sheet) ≡ 0) × Sized (viewOf sheet) sizes × T (stateRight (viewOf sheet) (stateOf state)) ×
         T (onSheet (viewOf sheet) speed) × (size ≤ 255) ⌝ }
     ensures { λ r. ⌜ IsMoved (viewOf sheet) (moved (viewOf sheet) (stateOf state) speed size deadline) (r .number) (r .state) ⌝ }
@@ -44,14 +44,14 @@ pub fn moved(
     next.queue = queue;
     next.slot = slot + 1;
     if !bearable(sizes.largest, sizes.bound, queue) {
-        return Moved { number: 17, state };
+        return NextState { number: 17, state };
     }
     let spent = energy_of(sheet, speed);
     if MOST_ENERGY - state.energy < spent {
-        return Moved { number: 18, state };
+        return NextState { number: 18, state };
     }
     next.energy = state.energy + spent;
-    Moved {
+    NextState {
         number: 0,
         state: next,
     }

@@ -1,6 +1,6 @@
 -- `moved` meets its contract: the next queue is not bearable, or the energy would pass its limit, or the next state is the model's.
 use Prim.Native.Nat.{ℕ, _+_}
-use mathlib.Core.Path.{_≡_, refl, sym, ap, _∙_, subst}
+use mathlib.Core.Path.{_≡_, sym, ap, _∙_, subst}
 use native.Mathlib.Numerals.{add-one}
 use native.Mathlib.Omega.{arith}
 use borrow.Author.Needs.{needs}
@@ -15,7 +15,7 @@ use Rattle.ranges.proofs.Answers.{passed-by, failed-by}
 use Rattle.sheets.proofs.Measures.{sized-ranges}
 use Rattle.slot.proofs.Slots.{bearable-small}
 use Rattle.slot.specs.Slot.{Small}
-use Rattle.stepper.proofs.Outcomes.{stepped-as, asked-of-next, moved-17, moved-18, moved-0}
+use Rattle.stepper.proofs.Outcomes.{asked-of-next, next-17, next-18, next-0}
 use Rattle.stepper.proofs.step.moved.Statement.{statement}
 use Rattle.stepper.proofs.step.moved.Tie as tie
 use Rattle.stepper.specs.Calls.{stateOf}
@@ -70,9 +70,12 @@ bearable-requires c κs =
 returns : tie.Need-returns
 returns c =
     let a = c .before .before .before .before .args in
-    stepped-as (a .state)
-    (moved-17 (viewOf (a .sheet)) (stateOf (a .state)) (a .speed) (a .size) (a .deadline)
-    (failed-by (asked (c .before)) (c .if1 .taken))) refl
+    record {
+      number-is =
+          sym
+          (next-17 (viewOf (a .sheet)) (stateOf (a .state)) (a .speed) (a .size) (a .deadline) (failed-by (asked (c .before)) (c .if1 .taken)));
+      state-is = λ e. absurd (omega arith);
+    }
 
 energy-of-requires : tie.Need-energy-of-requires
 energy-of-requires c κs = search needs
@@ -84,9 +87,13 @@ returns-2 : tie.Need-returns-2
 returns-2 c =
     let tested = c .before .before .before in
     let a = tested .before .before .before .before .args in
-    stepped-as (a .state)
-    (moved-18 (viewOf (a .sheet)) (stateOf (a .state)) (a .speed) (a .size) (a .deadline)
-    (passed-by (asked (tested .before)) (tested .if1 .left)) (omega (arith, c .if2 .taken, c .before .before .energy-of .ensures))) refl
+    record {
+      number-is =
+          sym
+          (next-18 (viewOf (a .sheet)) (stateOf (a .state)) (a .speed) (a .size) (a .deadline)
+          (passed-by (asked (tested .before)) (tested .if1 .left)) (omega (arith, c .if2 .taken, c .before .before .energy-of .ensures)));
+      state-is = λ e. absurd (omega arith);
+    }
 
 add-next-2 : tie.Need-add-next-2
 add-next-2 c = search needs
@@ -100,11 +107,15 @@ returns-3 c =
     let x = stateOf (a .state) in
     let queue-now = queue-is (tested .before .before) in
     let energy-is = ap (λ (n : ℕ). a .state .energy + n) (spent .energy-of .ensures) in
-    stepped-as _
-    (moved-0 s x (a .speed) (a .size) (a .deadline) (passed-by (asked (tested .before)) (tested .if1 .left))
-    (omega (arith, c .before .if2 .left, spent .energy-of .ensures)))
-    ((λ i. record { queue = queue-now i; slot = add-one (a .state .slot) i; energy = energy-is i }) ∙
-    sym (moved-by s x (a .speed) (a .size) (a .deadline)))
+    record {
+      number-is =
+          sym
+          (next-0 s x (a .speed) (a .size) (a .deadline) (passed-by (asked (tested .before)) (tested .if1 .left))
+          (omega (arith, c .before .if2 .left, spent .energy-of .ensures)));
+      state-is = λ e.
+          (λ i. record { queue = queue-now i; slot = add-one (a .state .slot) i; energy = energy-is i }) ∙
+          sym (moved-by s x (a .speed) (a .size) (a .deadline));
+    }
 
 pub moved-spec : {M : Type 1} → statement M
 moved-spec =
