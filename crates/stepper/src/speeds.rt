@@ -54,7 +54,7 @@ pub fn beginning(
         T (bearable (M (viewOf sheet)) (queueOf (viewOf sheet) (stateOf state))) × (state .slot ≤ sheet .horizon) ⌝ }
     ensures { λ r. ⌜ IsTold (toldBeginning (viewOf sheet) (now (plan .entry)) (stateOf state)) (r .number) (r .speed) ⌝ }
 {
-    if state.slot == sheet.horizon {
+    if sheet.horizon <= state.slot {
         return Told {
             number: 0,
             speed: NO_SPEED,

@@ -48,14 +48,14 @@ impl State {
             slot: 0,
             energy: 0,
         };
-        let begun = beginning(&counts, sheet, sizes, plan, state);
-        if begun.number != 0 {
-            return refused(begun.number, zero_state());
+        let first = beginning(&counts, sheet, sizes, plan, state);
+        if first.number != 0 {
+            return refused(first.number, zero_state());
         }
         Stepped {
             number: 0,
             state,
-            speed: begun.speed,
+            speed: first.speed,
         }
     }
 

@@ -17,24 +17,25 @@ use Rattle.stepper.specs.Parts.{toldBy, IsTold}
 
 returns : tie.Need-returns
 returns c =
-    let a = c .before .before .before .before .args in
+    let start = c .before .before .before .before in
+    let a = start .args in
     let s = viewOf (a .sheet) in
     let x = stateOf (a .state) in
-    let last = begins-at-end s (a .plan .now) x (c .if1 .taken) in
+    let last = begins-at-end s (a .plan .now) x (omega (arith, c .if1 .taken, start .pre .2)) in
     told-done (check (beginsRight s (a .plan .now) x) 16) (speedNow s (a .plan .now) x)
     (check-true (beginsRight s (a .plan .now) x) 16 (last .1)) (sym (last .0))
 
 speed-of-requires : tie.Need-speed-of-requires
 speed-of-requires c κs =
     let pre = c .before .before .before .before .pre in
-    (pre .0, pre .1, omega (arith, pre .2, c .if1 .left))
+    (pre .0, pre .1, c .if1 .left)
 
 returns-2 : tie.Need-returns-2
 returns-2 c =
     let a = c .before .before .before .before .before .args in
     let s = viewOf (a .sheet) in
     let x = stateOf (a .state) in
-    let before = begins-before s (a .plan .now) x (c .before .if1 .left) in
+    let before = begins-before s (a .plan .now) x (λ e. omega (arith, c .before .if1 .left, e)) in
     let answer = c .speed-of .result in
     subst (λ (speed : ℕ). IsTold (toldBy (check (beginsRight s (a .plan .now) x) 16) speed) (answer .number) (answer .speed)) (sym (before .0))
     (subst (λ (b : Bool). IsTold (toldBy (check b 16) (planByte s (a .plan .now) x)) (answer .number) (answer .speed)) (sym (before .1))

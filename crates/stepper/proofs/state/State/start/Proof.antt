@@ -106,7 +106,7 @@ beginning-requires c κs =
     let s = viewOf (a .sheet) in (
       record { holds = accepted .before .before .before .table .ensures; room = passed accepted; sized = sizes .sizes-of .ensures },
       held-bearable (M s) (s .bound) (a .self .queue) (subst T (sym (right tested)) tt),
-      omega arith,
+      omega (arith, ranged s (fields accepted) .horizon-low),
     )
 
 -- the number, by what was told of slot 0
