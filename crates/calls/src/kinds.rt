@@ -132,16 +132,14 @@ pub const SUM_ROW: usize = 35;
 
 pub const CALL_START: usize = 36;
 
-pub const CALL_SPEED: usize = 37;
-
-pub const CALL_ADVANCE: usize = 38;
+pub const CALL_ADVANCE: usize = 37;
 
 // A line without words, one that is copied, and one that is not understood: they have no row.
-pub const BLANK: usize = 39;
+pub const BLANK: usize = 38;
 
-pub const COMMENT: usize = 40;
+pub const COMMENT: usize = 39;
 
-pub const NOTHING: usize = 41;
+pub const NOTHING: usize = 40;
 
 // The places of memory that rows name.
 const AT_BOUND: u64 = crate::memory::BOUND as u64;
@@ -167,7 +165,7 @@ const LENT_BYTES: u64 = crate::memory::BYTES_LENT as u64;
 // A row: the first word and the second, or 0; the least and the greatest count of numbers behind them; the greatest number that may stand
 // first, and later; the first place that it reaches, before a number of the line is added; the word of the buffer of which the places must
 // be lent, or 0; how many places it reaches.
-const ROWS: [[u64; 9]; 39] = [
+const ROWS: [[u64; 9]; 38] = [
     [SET, BOUND, 1, 1, MOST, 0, AT_BOUND, 0, EACH],
     [SET, SPEEDS, 1, 1, MOST, 0, AT_SPEED_COUNT, 0, EACH],
     [SET, HORIZON, 1, 1, MOST, 0, AT_HORIZON, 0, EACH],
@@ -205,7 +203,6 @@ const ROWS: [[u64; 9]; 39] = [
     [ROW, 0, 1, 1, MOST, 0, 0, 0, EACH],
     [SUM, ROW, 1, 1, MOST, 0, 0, 0, EACH],
     [START, 0, 0, 0, 0, 0, 0, 0, EACH],
-    [SPEED, 0, 0, 0, 0, 0, 0, 0, EACH],
     [ADVANCE, 0, 2, 2, MOST, MOST, 0, 0, EACH],
 ];
 
@@ -225,14 +222,14 @@ pub const BUFFER: usize = 7;
 pub const REACH: usize = 8;
 
 // Only this function names the constant, since the checker spells it out wherever it is named.
-fn all_rows() -> [[u64; 9]; 39] {
+fn all_rows() -> [[u64; 9]; 38] {
     ROWS
 }
 
 // What a column says of a kind; 0 for a kind without a row.
 pub fn cell(kind: usize, column: usize) -> u64 {
     let rows = all_rows();
-    if 38 < kind {
+    if 37 < kind {
         return 0;
     }
     if 8 < column {
@@ -246,7 +243,7 @@ pub fn cell(kind: usize, column: usize) -> u64 {
 pub fn kind_of(first: u64, second: u64) -> usize {
     let rows = all_rows();
     let mut kind = 0;
-    while kind < 39 {
+    while kind < 38 {
         let row = rows[kind];
         if row[0] == first && row[1] == second {
             return kind;

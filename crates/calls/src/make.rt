@@ -5,7 +5,6 @@ use crate::kinds::CALL_PLAN;
 use crate::kinds::CALL_READ;
 use crate::kinds::CALL_READ_PLAN;
 use crate::kinds::CALL_ROW;
-use crate::kinds::CALL_SPEED;
 use crate::kinds::CALL_START;
 use crate::kinds::CALL_WRITE;
 use crate::kinds::SUM_ROW;
@@ -118,16 +117,10 @@ fn print_row(row: &[u8], kind: usize) {
     print_end();
 }
 
-// `row SLOT` and `sum row SLOT`, and `speed`.
-fn look(numbers: &[u64; 816947], sheet: Sheet, plan: &[u8], kind: usize, slot: u32) {
+// `row SLOT` and `sum row SLOT`.
+fn look(sheet: Sheet, plan: &[u8], kind: usize, slot: u32) {
     if kind == CALL_ROW || kind == SUM_ROW {
         print_row(layout::row(sheet, plan, slot), kind);
-        return;
-    }
-    if kind == CALL_SPEED {
-        let state = state_of(numbers);
-        let answer = state.speed(sheet, plan);
-        print_answer(b"speed ", answer.number, b", speed ", answer.speed as u64);
     }
 }
 
@@ -136,13 +129,15 @@ fn left(numbers: &mut [u64; 816947], name: &[u8], answer: Stepped) {
     keep_state(numbers, answer.state);
     print_field(name, answer.number as u64);
     print_state(numbers);
+    print_field(b", speed ", answer.speed as u64);
+    print_end();
 }
 
 // `start` and `advance SIZE DEADLINE`.
 fn step(numbers: &mut [u64; 816947], sheet: Sheet, plan: &[u8], request: Request) {
     let state = state_of(numbers);
     if request.kind == CALL_START {
-        left(numbers, b"start ", state.start(sheet));
+        left(numbers, b"start ", state.start(sheet, plan));
     }
     if request.kind == CALL_ADVANCE {
         let size = narrow(request.first);
@@ -155,7 +150,7 @@ fn step(numbers: &mut [u64; 816947], sheet: Sheet, plan: &[u8], request: Request
 fn make_with_plan(numbers: &mut [u64; 816947], plan: &mut [u8], request: Request) {
     let sheet = sheet_of(numbers);
     make_plan(numbers, sheet, plan, request.kind);
-    look(numbers, sheet, plan, request.kind, narrow(request.first));
+    look(sheet, plan, request.kind, narrow(request.first));
     step(numbers, sheet, plan, request);
 }
 

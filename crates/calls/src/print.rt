@@ -148,11 +148,10 @@ pub fn print_sheet(numbers: &[u64; 816947]) {
     print_end();
 }
 
-// Prints the state, and ends the line.
+// Prints the state; the line goes on.
 pub fn print_state(numbers: &[u64; 816947]) {
     print_words(b", queue");
     walk_numbers(numbers, QUEUE as u64, 6, IN_DECIMAL);
     print_field(b", slot ", numbers[SLOT]);
     print_field(b", energy ", numbers[ENERGY]);
-    print_end();
 }

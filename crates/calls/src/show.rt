@@ -99,6 +99,7 @@ pub fn show(numbers: &[u64; 816947], plan: &[u8; 1000000], bytes: &[u8; 65536], 
     if request.kind == SHOW_STATE {
         print_words(b"state");
         print_state(numbers);
+        print_end();
         return;
     }
     show_places(numbers, plan, bytes, request);
