@@ -2,7 +2,7 @@
 -- there is one least good way over the slots left such that every run to the horizon, along whatever entries, spends what that way
 -- spends along them (`spends-least`). From start that is all that is spent (`started-spends-least`).
 use Prim.Native.Nat.{ℕ, _+_, _-_, _≤_, _<_}
-use mathlib.Core.Path.{_≡_, sym, ap, _∙_, subst}
+use mathlib.Core.Path.{_≡_, ap, _∙_, subst}
 use mathlib.Core.List.{List}
 use native.Mathlib.Nat.{zero-add, sub-zero, le-refl, le-of-lt}
 use native.Mathlib.Omega.{arith}

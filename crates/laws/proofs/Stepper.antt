@@ -13,7 +13,7 @@ use Rattle.model.specs.Plan.{placeOfQueue, noSpeed, rowRefusal}
 use Rattle.model.specs.Queue.{total, placesOf, bearable, oneSlot}
 use Rattle.model.specs.Stepper.{State, queueOf, queueRight, stateRight, zeroState, begun, planByte, byteRight, speedNow, beginsRight, steppedBy, startRefusal, startLines, start, endingRefusal, endingLines, isEntryAt, isEntry, moved, nextRefusal, advanceRefusal, advanceLines, advance}
 use Rattle.model.specs.Tests.{check, _then_}
-use Rattle.model.proofs.Tests.{anywhere-one, and-both, and-left, and-right, and-fails-right, check-zero, check-true, check-false, then-left, then-right, then-on, then-passes, then-fails, then-stops}
+use Rattle.model.proofs.Tests.{anywhere-one, and-both, and-left, and-right, and-fails-right, check-zero, then-left, then-right, then-on, then-passes, then-fails, then-stops}
 
 module _ (s : View) where
   -- what both calls answer, by their number

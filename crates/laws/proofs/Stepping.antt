@@ -57,7 +57,7 @@ module _ (s : View) where
       omega (arith, state .2, mul-le-mul slot most, most, energy-of-upto s a on)
 
   -- a queue that has a value is bearable
-  pub value-bearable : sheetRefusal valueLimit s ≡ 0 → (t : ℕ) (w : Queue) → HasValue s t w → T (bearable (M s) w)
+  value-bearable : sheetRefusal valueLimit s ≡ 0 → (t : ℕ) (w : Queue) → HasValue s t w → T (bearable (M s) w)
   value-bearable e t w v = good-bearable s (accepted s e .ranged .jobs-low) (s .horizon - t) w (v .1 .way) (v .1 .holds)
 
   -- so that what stands in the places is right where the unused ones are zero
@@ -144,7 +144,7 @@ module _ (s : View) where
         (on-sheet s byte .1 (step .0), step .1, step .2)
 
     -- 16 passes
-    pub byte-passes : byteRight s x byte ≡ true
+    byte-passes : byteRight s x byte ≡ true
     byte-passes =
         first-decides s x byte (holds-true (onSheet s byte) (onward .0)) ∙ holds-true (leb (total (queueOf s x) 1) byte) (onward .1)
 

@@ -3,7 +3,6 @@ use Prim.Native.Nat.{ℕ}
 use mathlib.Core.Path.{sym, subst}
 use mathlib.Core.Bool.{Bool}
 use native.Mathlib.Omega.{arith}
-use borrow.Author.Needs.{needs}
 use Rattle.laws.proofs.Stepper.{begins-at-end, begins-before}
 use Rattle.model.proofs.Tests.{check-true}
 use Rattle.model.specs.View.{viewOf}

@@ -1,6 +1,5 @@
 -- `speed_of` meets its contract: the byte that it looks up is the plan's, and is right or not.
 use mathlib.Core.Path.{_≡_, sym, ap, subst, _∙_}
-use mathlib.Core.Bool.{Bool}
 use native.Mathlib.Omega.{arith}
 use lib.Dec.{T}
 use Rattle.model.proofs.Refusal.{fields-right, accepted}

@@ -1,5 +1,5 @@
 -- `start` meets its contract: the sheet or the plan's room is refused, or the queue is not right, or the plan byte of slot 0 decides.
-use mathlib.Core.Path.{_≡_, refl, sym, ap, _∙_, subst}
+use mathlib.Core.Path.{_≡_, refl, sym, _∙_, subst}
 use mathlib.Core.Bool.{true}
 use native.Mathlib.Omega.{arith}
 use borrow.Author.Needs.{needs}
