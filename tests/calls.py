@@ -1,5 +1,5 @@
-"""An independent implementation of the program `calls`: the public calls of document 01, by
-a script that docs/CALLS.md describes.
+"""An independent implementation of the program `calls`: the public calls of document 01, as
+request [1] of document 02 changed them, by a script that docs/CALLS.md describes.
 
     python3 tests/calls.py <SCRIPT
 
@@ -17,7 +17,7 @@ sys.dont_write_bytecode = True  # no folder of compiled files beside the tests
 from independent import (
     Sheet, checksum, plan_lent, read_sheet, row, write_listing, write_sheet,
 )
-from stepping import State, advance, speed, start
+from stepping import State, advance, start
 
 BYTE, NUMBER, LONG_NUMBER = 2**8 - 1, 2**32 - 1, 2**64 - 1  # the greatest of 8, 32, 64 bits
 MOST_SPEEDS, MOST_JOBS = 9, 32  # "In memory a sheet has room for all entries"
@@ -302,22 +302,17 @@ def list_call(memory, words):
 
 def start_call(memory, words):
     words.end()
-    number, memory.state = start(memory.sheet(), memory.state)
-    return f"start {number}, {memory.shown_state()}"
-
-
-def speed_call(memory, words):
-    words.end()
-    number, answered = speed(memory.sheet(), memory.lent["plan"].lent(), memory.state)
-    return f"speed {number}, speed {answered}"
+    plan = memory.lent["plan"].lent()
+    number, memory.state, speed = start(memory.sheet(), plan, memory.state)
+    return f"start {number}, {memory.shown_state()}, speed {speed}"
 
 
 def advance_call(memory, words):
     size, deadline = words.numbers(2, NUMBER)
     words.end()
     plan = memory.lent["plan"].lent()
-    number, memory.state = advance(memory.sheet(), plan, memory.state, size, deadline)
-    return f"advance {number}, {memory.shown_state()}"
+    number, memory.state, speed = advance(memory.sheet(), plan, memory.state, size, deadline)
+    return f"advance {number}, {memory.shown_state()}, speed {speed}"
 
 
 # Lines that ask what stands in memory.
@@ -386,7 +381,6 @@ LINES = {
     b"row": row_call,
     b"list": list_call,
     b"start": start_call,
-    b"speed": speed_call,
     b"advance": advance_call,
     b"show": {**each(show_places, *MOST_LENT), b"text": show_text, b"sheet": show_sheet,
               b"speeds": show_speeds, b"jobs": show_jobs, b"state": show_state},

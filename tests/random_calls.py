@@ -7,7 +7,8 @@ once with the script on standard input, and compares what it writes with what ca
 answers, line by line. It must end with status 0. Prints one line with how many answers there
 were of each number of each call, or the first five differences, each with its script line,
 and exits with 1. It exits with 1 before COMMAND is run when the script no longer has every
-number that a call can give at least five times (`refuse_narrow`).
+number that a call can give at least five times, of advance also 255 at the horizon and 16 for
+the slot that ends and for the slot that begins (`refuse_narrow`).
 
     python3 tests/random_calls.py --script
 
@@ -16,12 +17,17 @@ prints the script alone. For each of the random sheets of agreement.py it has a 
                from its bytes or by `set` lines, with numbers past the counts
     calls      write, plan, row and list, with just enough lent, one place less, more, none;
                afterwards the places before, at and after the end, also those not lent
-    runs       from a random queue along random entries, and arrivals that are no entry
+    runs       from a random queue along random entries, and arrivals that are no entry; and
+               from a later slot to the horizon and once more, where plan bytes follow the last
     states     at and around each bound of number 13, and at the horizon
-    damages    a plan byte that is none, no speed, another speed, too slow
+    damages    a plan byte that is none, no speed, another speed, too slow: that of the state,
+               which start and advance read, and that of the slot that begins, which advance
+               reads as well; bytes beside it, which it does not read; and a plan that is none
+               at all places but one
     refusals   the sheet with a number in memory that 4 to 10 refuse, wrong counts among them,
                and every call on it
-Further parts are sheets at the edges of numbers 9 and 10.
+Further parts are sheets at the edges of numbers 9 and 10, and a plan whose places need more
+than 16 bits.
 """
 
 import random
@@ -39,17 +45,21 @@ from calls import (
     BYTE, LONG_NUMBER, MOST_JOBS, MOST_LENT, MOST_SPEEDS, NUMBER, Memory, answer, spaced,
 )
 from independent import (
-    NONE_SPEED, SHEET_A, Sheet, byte_fields, count_queues, listing, refuse_lent_plan,
-    refuse_sheet, sheet_bytes, take_sheet,
+    NONE_SPEED, SHEET_A, Refused, Sheet, add_job, byte_fields, count_queues, listing,
+    refuse_lent_plan, refuse_sheet, run_slot, sheet_bytes, take_sheet,
 )
-from stepping import POSITIONS, State, at, queue_numbers
+from stepping import POSITIONS, State, at, planned_speed, queue_numbers
 
 SEED, SHEETS = 1, 110
 LEAST_CALLS, LEAST_OF_NUMBER = 5_000, 5
 MOST_SHOWN = 5
 SECONDS = 600
 MARGIN = 4  # so many places past what is needed are looked at
+TRIES = 30  # of finding a state that the plan has a speed for
 
+# The answers of advance that its number does not tell: at the horizon, and 16 for either slot.
+LAST = "0 and 255"
+ENDING, BEGINNING = "16 for the slot that ends", "16 for the slot that begins"
 # Every number that a call can give. A row gives no number: it is a part of the plan, which is
 # empty on a refusal or where the slot is not below T.
 ANSWERS = {
@@ -58,9 +68,8 @@ ANSWERS = {
     "plan": (0, *range(4, 13)),
     "row": ("a part", *range(4, 12), "no slot"),
     "list": (0, *range(4, 12)),
-    "start": (0, *range(4, 11), 13),
-    "speed": (0, *range(4, 12), 13, 14, 16),
-    "advance": (0, *range(4, 12), 13, 14, 15, 16, 17),
+    "start": (0, *range(4, 12), 13, 16),
+    "advance": (0, LAST, *range(4, 12), 13, 14, ENDING, 15, 17, BEGINNING),
 }
 
 
@@ -78,6 +87,7 @@ class Script:
         words = line.split(" ")
         is_row = "row" in words[:2]
         row_kind = self.kind_of_row(int(words[-1])) if is_row else None
+        before = self.memory.state
         given, understood = answer(self.memory, line.encode())
         if not understood:
             sys.exit(f"`{line[:80]}` is no line of a script: {given.decode().strip()}")
@@ -86,13 +96,31 @@ class Script:
         if is_row:
             self.counts["row", row_kind] += 1
         elif words[0] in ANSWERS:
-            self.counts[words[0], int(given.split()[1].rstrip(b","))] += 1
+            number = int(given.split()[1].rstrip(b","))
+            if words[0] == "advance":
+                number = self.kind_of_advance(number, given, before)
+            self.counts[words[0], number] += 1
         return given
 
     def kind_of_row(self, slot):
         sheet = self.memory.sheet()
         number = refuse_lent_plan(sheet, self.lent("plan"))
         return number or ("a part" if slot < sheet.horizon else "no slot")
+
+    def kind_of_advance(self, number, given, before):
+        """Which answer of this number it is, where `ANSWERS` has more than one."""
+        if number == 0:
+            return LAST if given.endswith(b" 255\n") else 0
+        if number != 16:
+            return number
+        sheet = self.memory.sheet()
+        numbers = queue_numbers(sheet.bound, sheet.largest_speed())
+        totals = before.queue[: sheet.bound]
+        try:
+            planned_speed(sheet, numbers, self.lent("plan"), before.slot, totals)
+        except Refused:
+            return ENDING
+        return BEGINNING
 
     def lent(self, name):
         return self.memory.lent[name].lent()
@@ -306,18 +334,33 @@ def call_advance(script, sheet, arrival):
     script.say(f"advance {size} {deadline}")
 
 
+def advance_along(script, sheet, slots):
+    """So many advances by random entries, and some arrivals between them that are none."""
+    for _ in range(slots):
+        if script.chance.random() < 0.15:
+            call_advance(script, sheet, no_entry)
+        call_advance(script, sheet, some_entry)
+
+
 def run(script, sheet):
     """A run from a random queue, at most eight slots and, where that is less, to the
-    horizon."""
+    horizon and once more; where it is not started, from nothing waiting."""
     chance = script.chance
     queue = some_queue(chance, sheet) if chance.random() < 0.6 else (0,) * sheet.bound
     put_state(script, at(queue, some_number(chance), some_number(chance)))
     script.say("start")
-    for _ in range(min(sheet.horizon + 1, 8)):
-        script.say("speed")
-        if chance.random() < 0.15:
-            call_advance(script, sheet, no_entry)
-        call_advance(script, sheet, some_entry)
+    advance_along(script, sheet, min(sheet.horizon + 1, 8))
+
+
+def run_late(script, sheet):
+    """A run from one of the last slots to the horizon and once more, with a row more lent than
+    there is."""
+    _, plan = sizes(sheet)
+    script.say(f"lend plan {plan + count_queues(sheet)}")
+    left = script.chance.randint(1, min(sheet.horizon, 3))
+    put_state(script, at((), sheet.horizon - left))
+    advance_along(script, sheet, left + 1)
+    script.say(f"lend plan {plan}")
 
 
 def right_state(chance, sheet):
@@ -351,12 +394,11 @@ def edge_states(chance, sheet):
 
 
 def call_states(script, sheet):
-    """Every state of `edge_states`, with speed, advance and sometimes start."""
+    """Every state of `edge_states`, with advance and often start."""
     for state in edge_states(script.chance, sheet):
         put_state(script, state)
-        script.say("speed")
         call_advance(script, sheet, some_entry)
-        if script.chance.random() < 0.3:
+        if script.chance.random() < 0.5:
             put_state(script, state)
             script.say("start")
 
@@ -369,14 +411,26 @@ def slow_state(chance, sheet):
     return replace(state, queue=at([0, *queue[1:]]).queue)
 
 
+def place_of(sheet, slot, totals):
+    """The place of the plan byte of this slot and queue."""
+    numbers = queue_numbers(sheet.bound, sheet.largest_speed())
+    return slot * len(numbers) + numbers[totals[: sheet.bound]]
+
+
+def no_speed(chance, sheet):
+    """A byte that is no speed of the sheet, and not none."""
+    speeds = [speed for speed, _ in sheet.speeds]
+    gaps = [byte for byte in range(BYTE) if byte not in speeds]
+    return chance.choice((gaps[0], max(speeds) + 1, chance.choice(gaps)))
+
+
 def damages(chance, sheet, right):
     """(state, byte): plan bytes that should not stand at the state's place. `right` gives
     the byte that stands there."""
     speeds = [speed for speed, _ in sheet.speeds]
-    gaps = [byte for byte in range(BYTE) if byte not in speeds]
     state = right_state(chance, sheet)
     yield state, NONE_SPEED
-    yield state, chance.choice((gaps[0], max(speeds) + 1, chance.choice(gaps)))
+    yield state, no_speed(chance, sheet)
     beside = [speed for speed in speeds if speed != right(state)]
     yield state, chance.choice(beside)
     yield state, min(beside, key=lambda speed: abs(speed - right(state)))
@@ -386,24 +440,90 @@ def damages(chance, sheet, right):
 
 
 def call_damaged(script, sheet):
-    """Speed and advance with one plan byte damaged, and then the byte as it was."""
-    chance, queue_count = script.chance, count_queues(sheet)
-    numbers = queue_numbers(sheet.bound, sheet.largest_speed())
-    plan = bytes(script.lent("plan"))
+    """Start and advance with one plan byte damaged, and then the byte as it was. Start reads
+    it where the state is at slot 0."""
+    chance, plan = script.chance, bytes(script.lent("plan"))
 
-    def place_of(state):
-        return state.slot * queue_count + numbers[state.queue[: sheet.bound]]
+    def place(state):
+        return place_of(sheet, state.slot, state.queue)
 
-    for state, byte in damages(chance, sheet, lambda state: plan[place_of(state)]):
-        place = place_of(state)
-        script.say(f"put plan {place} {byte}")
+    for state, byte in damages(chance, sheet, lambda state: plan[place(state)]):
+        script.say(f"put plan {place(state)} {byte}")
         put_state(script, state)
-        script.say("speed")
+        script.say("start")
+        put_state(script, state)
         if chance.random() < 0.3:
             call_advance(script, sheet, no_entry)
             put_state(script, state)
         call_advance(script, sheet, some_entry)
-        script.say(f"put plan {place} {plan[place]}")
+        script.say(f"put plan {place(state)} {plan[place(state)]}")
+
+
+def planned_advance(chance, sheet, plan):
+    """(state, size, deadline, totals): an advance that is done and after which a slot begins,
+    with the queue of that slot. None where there is no such slot, or none was found."""
+    for _ in range(TRIES):
+        state = right_state(chance, sheet)
+        size, deadline = some_entry(chance, sheet)
+        speed = plan[place_of(sheet, state.slot, state.queue)]
+        if state.slot + 1 < sheet.horizon and speed != NONE_SPEED:
+            after = run_slot(state.queue[: sheet.bound], speed)
+            return state, size, deadline, add_job(after, size, deadline)
+    return None
+
+
+def next_damages(chance, sheet, state, totals):
+    """(place, byte): plan bytes of the slot that begins, with this queue, that should not stand
+    there, and the slowest that may; and bytes at places that are like it and are not read."""
+    place = place_of(sheet, state.slot + 1, totals)
+    speeds = [speed for speed, _ in sheet.speeds]
+    yield place, NONE_SPEED
+    yield place, no_speed(chance, sheet)
+    yield place, chance.choice(speeds)
+    yield place, min(speed for speed in speeds if speed >= totals[0])
+    if totals[0] > 0:
+        yield place, max(speed for speed in speeds if speed < totals[0])
+    if totals != state.queue[: sheet.bound]:
+        yield place_of(sheet, state.slot + 1, state.queue), NONE_SPEED
+        yield place_of(sheet, state.slot, totals), NONE_SPEED
+
+
+def call_damaged_next(script, sheet):
+    """Advance with one plan byte damaged that belongs to the slot that begins, and then the
+    byte as it was."""
+    chance, plan = script.chance, bytes(script.lent("plan"))
+    for _ in range(2):
+        found = planned_advance(chance, sheet, plan)
+        if found is None:
+            return
+        state, size, deadline, totals = found
+        for place, byte in next_damages(chance, sheet, state, totals):
+            script.say(f"put plan {place} {byte}")
+            put_state(script, state)
+            if chance.random() < 0.2:
+                call_advance(script, sheet, no_entry)
+                put_state(script, state)
+            script.say(f"advance {size} {deadline}")
+            script.say(f"put plan {place} {plan[place]}")
+
+
+def call_bare(script, sheet):
+    """Start and advance with a plan that is none at all places but that of the state, and of
+    which a row more is lent than there is."""
+    chance = script.chance
+    _, plan = sizes(sheet)
+    script.say(f"lend plan {plan + count_queues(sheet)}")
+    script.say(f"fill plan {NONE_SPEED}")
+    for make_state in right_state, right_state, slow_state:
+        state = make_state(chance, sheet)
+        place = place_of(sheet, state.slot, state.queue)
+        script.say(f"put plan {place} {chance.choice(sheet.speeds)[0]}")
+        put_state(script, state)
+        script.say("start")
+        for arrival in no_entry, some_entry:
+            put_state(script, state)
+            call_advance(script, sheet, arrival)
+        script.say(f"put plan {place} {NONE_SPEED}")
 
 
 # Refusals
@@ -440,7 +560,6 @@ def call_all(script, sheet):
     calls = [
         call_write, call_plan, call_row, call_list,
         lambda script: script.say("start"),
-        lambda script: script.say("speed"),
         lambda script: call_advance(script, sheet, chance.choice((some_entry, no_entry))),
     ]
     chance.shuffle(calls)
@@ -482,6 +601,10 @@ def add_sheet(script, place):
     run(script, sheet)
     call_states(script, sheet)
     call_damaged(script, sheet)
+    call_damaged_next(script, sheet)
+    call_bare(script, sheet)
+    right_plan(script, sheet)
+    run_late(script, sheet)
     script.say(f"lend plan {max(0, len(script.lent('plan')) - script.chance.choice((0, 1)))}")
     call_all(script, sheet)
     for further in range(2):
@@ -499,7 +622,6 @@ def add_edge(script, sheet, name):
         call_list(script)
     put_state(script, at(()))
     script.say("start")
-    script.say("speed")
     call_advance(script, sheet, some_entry)
     script.say(f"sum row {sheet.horizon - 1}")
     script.say(f"sum row {sheet.horizon}")
@@ -522,6 +644,31 @@ def add_sums(script):
     right_plan(script, sheet)
     script.say("sum values 0 234")
     script.say("row 0")
+
+
+def add_far(script):
+    """A plan of nearly as many bytes as there is room for: where it is damaged, the place is
+    mostly one that 16 bits do not hold."""
+    chance = script.chance
+    sheet = Sheet(5, ((0, 3), (2, 0), (5, 7)), 15, ((1, 0, 1), (1, 5, 5), (1, 3, 2)))
+    script.say("# a plan of 942,480 bytes")
+    put_sheet(script, sheet)
+    _, plan = sizes(sheet)
+    script.say(f"lend plan {plan}")
+    script.say("fill plan 5")
+    for _ in range(20):
+        state, (size, deadline) = right_state(chance, sheet), some_entry(chance, sheet)
+        totals = add_job(run_slot(state.queue[: sheet.bound], 5), size, deadline)
+        put_state(script, state)
+        script.say(f"advance {size} {deadline}")
+        if state.slot + 1 == sheet.horizon or totals not in queue_numbers(5, 5):
+            continue
+        place = place_of(sheet, state.slot + 1, totals)
+        for byte in 2, NONE_SPEED:
+            script.say(f"put plan {place} {byte}")
+            put_state(script, state)
+            script.say(f"advance {size} {deadline}")
+        script.say(f"put plan {place} 5")
 
 
 def refused_edges(chance):
@@ -560,6 +707,7 @@ def make_script():
     for bound, top in (5, 5), (6, 3), (4, 8), (5, 6), (6, 4), (6, 8):
         add_edge(script, plain(bound, top), "the most queues, and more")
     add_sums(script)
+    add_far(script)
     script.say("# a plan of 53,820 queues")
     put_sheet(script, plain(6, 3))
     right_plan(script, plain(6, 3))

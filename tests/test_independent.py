@@ -1,4 +1,5 @@
-"""Checks independent.py and stepping.py: document 01's cases, and the definition.
+"""Checks independent.py and stepping.py: document 01's cases, what request [1] of document 02
+changed of them, and the definition.
 
     python3 tests/test_independent.py
 
@@ -6,7 +7,8 @@ prints `ok`, or stops at the first check that fails. The cases are those of 01's
 "Worked sheet" and of the decisions that concern reading, refusing, planning, listing
 and stepping. `check_ways` then tries ALL ways of small sheets, as 01 defines them, with
 queues stepped by code of its own; nothing there uses the backward induction.
-`check_runs` steps small sheets along all lists of entries, which must spend the value.
+`check_runs` steps small sheets along all lists of entries, which must spend the value;
+the speeds are those that start and advance answered.
 """
 
 import random
@@ -19,7 +21,7 @@ from independent import (
     checksum, plan_lent, plan_of, plan_sheet, program, read_number, read_sheet, refuse_sheet,
     row, run_slot, sheet_bytes,
 )
-from stepping import State, advance, at, speed, start
+from stepping import State, advance, at, start
 
 
 def read_hex(text):
@@ -328,26 +330,30 @@ def check_ways():
     assert nones > 100 and ties > 100  # the sheets tell the rules apart
 
 
+def not_advanced(sheet, plan, state, size, deadline):
+    """The number of an advance that is refused: the state comes back, and the speed is 0."""
+    number, after, speed = advance(sheet, plan, state, size, deadline)
+    assert number != 0 and (after, speed) == (state, 0), (number, after, speed)
+    return number
+
+
 def both(sheet, plan, state, size, deadline):
-    """The number of speed and of advance, which agree; each refused as 01 says."""
-    number, answer = speed(sheet, plan, state)
-    assert number != 0 and answer == 0, (number, answer)
-    assert advance(sheet, plan, state, size, deadline) == (number, state)
+    """The number of start and of advance, which agree; each refused as 01 and [1] say."""
+    number = not_advanced(sheet, plan, state, size, deadline)
+    assert start(sheet, plan, state) == (number, State(), 0), number
     return number
 
 
 def check_worked_run():
     own = plan_of(SHEET_A)
     for plan in own, own + [255, 7]:  # decision 3: "A longer plan is fine"
-        number, state = start(SHEET_A, at((0, 2)))
-        assert (number, state) == (0, at((0, 2), 0, 0))
-        assert speed(SHEET_A, plan, state) == (0, 1)
-        number, state = advance(SHEET_A, plan, state, 2, 2)
-        assert (number, state) == (0, at((1, 3), 1, 1))
-        assert speed(SHEET_A, plan, state) == (0, 1)
-        number, state = advance(SHEET_A, plan, state, 0, 1)
-        assert (number, state) == (0, at((2, 2), 2, 2))
-        assert both(SHEET_A, plan, state, 0, 1) == 14
+        number, state, speed = start(SHEET_A, plan, at((0, 2)))
+        assert (number, state, speed) == (0, at((0, 2), 0, 0), 1)
+        number, state, speed = advance(SHEET_A, plan, state, 2, 2)
+        assert (number, state, speed) == (0, at((1, 3), 1, 1), 1)
+        number, state, speed = advance(SHEET_A, plan, state, 0, 1)
+        assert (number, state, speed) == (0, at((2, 2), 2, 2), 255)
+        assert not_advanced(SHEET_A, plan, state, 0, 1) == 14
 
 
 def check_states():
@@ -355,84 +361,152 @@ def check_states():
     largest = 4_294_967_295  # decision 5: "nothing wraps"
     for totals in [(1, 0), (2, 1), (3, 3), (0, 5), (0, 2, 1), (0, 2, 2, 2, 2, 2),
                    (0, 0, 0, 0, 0, 1), (0, largest), (largest, largest)]:
-        assert start(SHEET_A, at(totals)) == (13, State()), totals
         assert both(SHEET_A, plan, at(totals), 0, 1) == 13, totals
     for slot, energy in (0, 1), (1, 5), (2, 9), (3, 0), (largest, largest):
         state = at((0, 2), slot, energy)
-        assert both(SHEET_A, plan, state, 0, 1) == 13, state
+        assert not_advanced(SHEET_A, plan, state, 0, 1) == 13, state
         # Decision 10: they "are not looked at".
-        assert start(SHEET_A, state) == (0, at((0, 2)))
+        assert start(SHEET_A, plan, state) == (0, at((0, 2)), 1)
     # The energy spent before counts too.
-    assert advance(SHEET_A, plan, at((1, 3), 1, 4), 0, 1) == (0, at((2, 2), 2, 5))
+    assert advance(SHEET_A, plan, at((1, 3), 1, 4), 0, 1) == (0, at((2, 2), 2, 5), 255)
     # Decision 9: "falls" is tested up to D, so (0, 2) and then zeros does not fall; with
     # a D of 6 every position is tested.
     assert at((0, 2)) == State((0, 2, 0, 0, 0, 0), 0, 0) and State() == at(())
-    assert start(SHEET_A, at((0, 2))) == (0, at((0, 2)))
+    assert start(SHEET_A, plan, at((0, 2))) == (0, at((0, 2)), 1)
     wide = one_job(6, [(0, 0), (1, 1)], 1, (1, 0, 1))
-    assert start(wide, at((0, 0, 0, 0, 0, 6))) == (0, at((0, 0, 0, 0, 0, 6)))
+    wide_plan = plan_of(wide)
+    fullest = at((0, 0, 0, 0, 0, 6))
+    assert start(wide, wide_plan, fullest) == (0, fullest, 1)
     for totals in (0, 0, 0, 0, 0, 7), (0, 0, 0, 0, 1):
-        assert start(wide, at(totals)) == (13, State()), totals
+        assert both(wide, wide_plan, at(totals), 0, 1) == 13, totals
     # Decision 10: "a run can begin from what the last one left".
-    number, last = advance(SHEET_A, plan, at((0, 2), 1, 4), 2, 2)
-    assert (number, last) == (0, at((2, 4), 2, 4))
-    assert start(SHEET_A, last) == (0, at((2, 4)))
+    number, last, speed = advance(SHEET_A, plan, at((0, 2), 1, 4), 2, 2)
+    assert (number, last, speed) == (0, at((2, 4), 2, 4), 255)
+    assert start(SHEET_A, plan, last) == (0, at((2, 4)), 2)
 
 
 def check_energies():
     """Decision 2: 13 uses "the plain greatest over all speeds, 0 where all are 0"."""
     sheet = one_job(2, [(0, 0), (1, 0)], 2, (1, 0, 1))
     plan = plan_of(sheet)
-    assert speed(sheet, plan, at((0, 0), 1, 0)) == (0, 0)
-    assert both(sheet, plan, at((0, 0), 1, 1), 0, 1) == 13
+    assert advance(sheet, plan, State(), 0, 1) == (0, at((0, 0), 1, 0), 0)
+    assert advance(sheet, plan, at((0, 0), 1, 0), 0, 1) == (0, at((0, 0), 2, 0), 255)
+    assert not_advanced(sheet, plan, at((0, 0), 1, 1), 0, 1) == 13
     sheet = one_job(2, [(0, 5), (1, 1)], 2, (1, 0, 1))
     plan = plan_of(sheet)
-    assert speed(sheet, plan, at((0, 0), 1, 5)) == (0, 1)
-    assert advance(sheet, plan, at((0, 0), 1, 5), 0, 1) == (0, at((0, 0), 2, 6))
-    assert both(sheet, plan, at((0, 0), 1, 6), 0, 1) == 13
+    assert advance(sheet, plan, State(), 0, 1) == (0, at((0, 0), 1, 1), 1)
+    assert advance(sheet, plan, at((0, 0), 1, 5), 0, 1) == (0, at((0, 0), 2, 6), 255)
+    assert not_advanced(sheet, plan, at((0, 0), 1, 6), 0, 1) == 13
     # At a damaged byte of 0 the energy is that of speed 0.
-    assert advance(sheet, [0] * len(plan), at((0, 0)), 0, 1) == (0, at((0, 0), 1, 5))
+    assert advance(sheet, [0] * len(plan), State(), 0, 1) == (0, at((0, 0), 1, 5), 0)
 
 
 def check_no_plan():
-    """Decision 9: "A queue that has no plan starts with 0", then 16."""
+    """By [1] start answers the first speed, which a queue that has no plan has not: its byte is
+    255, and start is refused with 16, as advance is."""
     sheet = one_job(2, [(0, 0), (2, 4)], 2, (1, 3, 2))
     plan = plan_of(sheet)
-    assert start(sheet, at((2, 4), 7, 7)) == (0, at((2, 4)))
     assert both(sheet, plan, at((2, 4)), 3, 2) == 16
+    assert start(sheet, plan, at((2, 4), 7, 7)) == (16, State(), 0)
     # Number 12: from the empty queue too, though the later slot has a plan.
     sheet = one_job(2, [(0, 0), (1, 1)], 2, (1, 2, 2))
     plan = plan_of(sheet)
-    assert start(sheet, State()) == (0, State())
     assert both(sheet, plan, State(), 2, 2) == 16
-    assert advance(sheet, plan, at((0, 0), 1, 0), 2, 2) == (0, at((0, 2), 2, 0))
+    assert advance(sheet, plan, at((0, 0), 1, 0), 2, 2) == (0, at((0, 2), 2, 0), 255)
+    # A damaged byte lets it start, and the slot that it leads to has no plan either.
+    plan = [0] * 5 + plan[5:]
+    assert start(sheet, plan, State()) == (0, State(), 0)
+    assert plan[5 + 2] == NONE_SPEED and not_advanced(sheet, plan, State(), 2, 2) == 16
 
 
 def check_damaged():
-    """Decision 11: 16 is not "inadmissible", and it comes before 15."""
+    """Decision 11: 16 is not "inadmissible", and that of the slot that ends is before 15."""
     state = at((0, 4))
     slow = [0] * 24
-    assert speed(SHEET_A, slow, state) == (0, 0)
-    assert advance(SHEET_A, slow, state, 0, 1) == (17, state)
-    assert advance(SHEET_A, slow, state, 1, 1) == (15, state)  # would be 17 too
+    assert start(SHEET_A, slow, state) == (0, state, 0)
+    assert not_advanced(SHEET_A, slow, state, 0, 1) == 17
+    assert not_advanced(SHEET_A, slow, state, 1, 1) == 15  # would be 17 too
     for size, deadline in (0, 2), (2, 1), (0, 0), (2, 3), (4_294_967_295, 4_294_967_295):
-        assert advance(SHEET_A, slow, state, size, deadline) == (15, state)
+        assert not_advanced(SHEET_A, slow, state, size, deadline) == 15
     for byte in 3, 255:
         for job in (0, 1), (1, 1):
             assert both(SHEET_A, [byte] * 24, state, *job) == 16
     # A sheet speed "below w(1)", and one that is not.
     assert both(SHEET_A, [1] * 24, at((2, 2)), 0, 1) == 16
-    assert advance(SHEET_A, [2] * 24, at((2, 2)), 2, 2) == (0, at((0, 2), 1, 4))
+    assert start(SHEET_A, [2] * 24, at((2, 2))) == (0, at((2, 2)), 2)
+    assert advance(SHEET_A, [2] * 24, at((2, 2)), 2, 2) == (0, at((0, 2), 1, 4), 2)
     # A number between two speeds is "no sheet speed".
     assert both(one_job(1, [(0, 0), (2, 1)], 1, (1, 0, 1)), [1] * 3, State(), 0, 1) == 16
-    # Only the byte of the state's slot and queue is looked at; queue (1, 3) is 7.
+
+
+def plan_with(bytes_at, other=255):
+    """A plan for sheet A: these bytes by place, and at all other places this one."""
+    return [bytes_at.get(place, other) for place in range(24)]
+
+
+def check_places():
+    """The bytes that are looked at, and no other is: of a start one of slot 0, of an advance
+    that of the slot that ends and that of the slot that begins, where there is one."""
+    state = at((1, 3))  # queue number 7; at speed 2 and by (0, 1) it becomes (1, 1), number 5
     for place in range(24):
-        plan = [255] * 24
-        plan[place] = 2
-        assert (speed(SHEET_A, plan, at((1, 3), 1)) == (0, 2)) == (place == 12 + 7)
+        plan = plan_with({place: 2})
+        assert (start(SHEET_A, plan, at((1, 3), 1)) == (0, state, 2)) == (place == 7)
+        last = advance(SHEET_A, plan, at((1, 3), 1), 0, 1) == (0, at((1, 1), 2, 4), 255)
+        assert last == (place == 12 + 7)
+        for other in range(place):
+            plan = plan_with({place: 2, other: 2})
+            done = advance(SHEET_A, plan, state, 0, 1) == (0, at((1, 1), 1, 4), 2)
+            assert done == ({place, other} == {7, 12 + 5})
+
+
+def check_new_slot():
+    """[1]: "advance answers the speed of the slot that begins", and "If the new slot's plan
+    byte is wrong, the whole advance is refused and the old state comes back"."""
+    energies = dict(SHEET_A.speeds)
+    for ending, beginning in product((*range(10), 127, 128, 254, 255), repeat=2):
+        after = advance(SHEET_A, plan_with({0: ending, 12: beginning}), State(), 0, 1)
+        if ending in energies and beginning in energies:
+            assert after == (0, at((0, 0), 1, energies[ending]), beginning)
+        else:
+            assert after == (16, State(), 0)
+    # "below w(1)" is of the new queue: (1, 3), number 7. w(1) of the old one is 0.
+    for beginning in range(256):
+        after = advance(SHEET_A, plan_with({2: 1, 12 + 7: beginning}, 0), at((0, 2)), 2, 2)
+        expected = (0, at((1, 3), 1, 1), beginning) if beginning in (1, 2) else (
+            16, at((0, 2)), 0)
+        assert after == expected, beginning
+    # Nor is it of the old queue: the byte 0 is right for (0, 0), though (2, 2) ends.
+    plan = plan_with({9: 2, 12: 0})
+    assert advance(SHEET_A, plan, at((2, 2)), 0, 1) == (0, at((0, 0), 1, 4), 0)
+    # The old state is the one that it got, with its slot and its energy.
+    longer = Sheet(2, SHEET_A.speeds, 3, SHEET_A.jobs)
+    plan = plan_of(longer)
+    state = at((0, 2), 1, 3)
+    assert advance(longer, plan, state, 2, 2) == (0, at((1, 3), 2, 4), 1)
+    for byte in 255, 3, 0:
+        damaged = [*plan[:24 + 7], byte, *plan[24 + 8:]]
+        assert not_advanced(longer, damaged, state, 2, 2) == 16
+        assert advance(longer, damaged, state, 0, 1) == (0, at((1, 1), 2, 4), 1)  # elsewhere
+
+
+def check_last_slot():
+    """[1]: "or 255 when the horizon is reached". There is no byte to be tested then, not even
+    where one follows."""
+    for horizon in range(1, 5):
+        sheet = one_job(1, [(0, 0), (1, 1)], horizon, (1, 1, 1))  # 2 queues
+        places = 2 * horizon
+        for byte, past in product((0, 1), (0, 1, 2, 255)):
+            for plan in [byte] * places, [byte] * places + [past] * 4:
+                state = at((byte,), horizon - 1)
+                assert advance(sheet, plan, state, 1, 1) == (0, at((1,), horizon, byte), 255)
+        # The byte of the slot that ends is tested there as well; 0 is below w(1).
+        for byte in 0, 2, 255:
+            assert not_advanced(sheet, [byte] * places, at((1,), horizon - 1), 1, 1) == 16
 
 
 def check_order():
-    """4 to 10, 11, 13, 14, 16: each refusal before those after it."""
+    """Start: 4 to 10, 11, 13, 16. Advance: 4 to 10, 11, 13, 14, 16, 15, 17, 18, 16. Each
+    refusal is before those after it."""
     plan = plan_of(SHEET_A)
     bad, end = at((2, 1), 3, 99), at((0, 2), 2, 8)
     for sheet, number in [
@@ -444,36 +518,61 @@ def check_order():
         (one_job(2, [(0, 0), (1, 1)], 58, (2, 0, 1)), 9),
         (one_job(5, [(0, 0), (6, 1)], 1, (1, 0, 1)), 10),
     ]:
-        assert start(sheet, bad) == (number, State()), number
-        assert both(sheet, [], bad, 0, 1) == number, number
+        for lent in [], plan, [3] * 24:
+            assert both(sheet, lent, bad, 0, 1) == number, number
     # Decisions 3 and 16: T times N bytes "whatever the slot, before 13 and 14".
-    for short in plan[:-1], plan[:12], []:
+    for short in plan[:-1], plan[:12], [], [3] * 23:
         for state in at((0, 2)), bad, end:
             assert both(SHEET_A, short, state, 0, 1) == 11
     # Decision 16: "14 and speed 0, after 11 and 13; a slot above T is 13".
     for longer in plan, plan + [3] * 24:
-        assert both(SHEET_A, longer, end, 1, 1) == 14
+        assert not_advanced(SHEET_A, longer, end, 1, 1) == 14
+        assert start(SHEET_A, longer, end) == (0, at((0, 2)), 1)
         for state in at((0, 2), 2, 9), at((2, 1), 2), at((0, 2, 1), 2), at((0, 2), 3), bad:
-            assert both(SHEET_A, longer, state, 0, 1) == 13, state
-    assert both(SHEET_A, [3] * 24, bad, 1, 1) == 13
+            assert not_advanced(SHEET_A, longer, state, 0, 1) == 13, state
+    for state in bad, at((3, 3)), at((0, 2, 1)):
+        assert both(SHEET_A, [3] * 24, state, 1, 1) == 13
+    assert not_advanced(SHEET_A, [3] * 24, end, 1, 1) == 14
 
 
-def energy_of_lists(sheet, plan, state):
+def check_order_of_bytes():
+    """16 for the slot that ends is before 15 and 17, and 16 for the new slot is after both:
+    what is wrong is put right one by one."""
+    state, right = at((0, 4)), (0, at((2, 2), 1, 4), 2)  # queue number 4, then 9
+    for number, ending, beginning, arrival in [
+        (16, 3, 3, (1, 2)),
+        (15, 0, 3, (1, 2)),
+        (17, 0, 3, (0, 1)),
+        (16, 2, 3, (0, 1)),
+        (16, 2, 1, (0, 1)),
+    ]:
+        plan = [ending] * 12 + [beginning] * 12
+        assert not_advanced(SHEET_A, plan, state, *arrival) == number, plan
+    # Each alone, so that it is the byte that is meant which is refused.
+    assert advance(SHEET_A, [2] * 24, state, 0, 1) == right
+    assert not_advanced(SHEET_A, [3] * 12 + [2] * 12, state, 0, 1) == 16
+    assert not_advanced(SHEET_A, [2] * 12 + [255] * 12, state, 1, 2) == 15  # (2, 3) if it were
+    assert not_advanced(SHEET_A, [2] * 12 + [255] * 12, state, 0, 1) == 16
+    # Where the new queue would not be bearable, (4, 6) here, it has no byte to be tested.
+    assert not_advanced(SHEET_A, [0] * 12 + [255] * 12, state, 2, 2) == 17
+
+
+def energy_of_lists(sheet, plan, state, speed):
     """Steps along every list of entries from this state to the horizon: the sum of the
-    products of the weights times the energy spent at the end."""
+    products of the weights times the energy spent at the end. The speed is what the call that
+    gave the state answered."""
     if state.slot == sheet.horizon:
         _, size, deadline = sheet.jobs[0]
-        assert both(sheet, plan, state, size, deadline) == 14
+        assert not_advanced(sheet, plan, state, size, deadline) == 14
+        assert speed == 255, (sheet, state)
         return state.energy
-    number, answer = speed(sheet, plan, state)
-    assert number == 0, (sheet, state)
     totals, total = state.queue[: sheet.bound], 0
     for weight, size, deadline in sheet.jobs:
-        number, after = advance(sheet, plan, state, size, deadline)
-        moved = step(sheet, totals, answer, size, deadline)
-        spent = state.energy + dict(sheet.speeds)[answer]
+        number, after, answered = advance(sheet, plan, state, size, deadline)
+        moved = step(sheet, totals, speed, size, deadline)
+        spent = state.energy + dict(sheet.speeds)[speed]
         assert (number, after) == (0, at(moved, state.slot + 1, spent)), (sheet, state)
-        total += weight * energy_of_lists(sheet, plan, after)
+        total += weight * energy_of_lists(sheet, plan, after, answered)
     return total
 
 
@@ -492,15 +591,16 @@ def check_runs():
     ]:
         _, _, _, values, plan = plan_sheet(sheet)
         queues = bearable_queues(sheet.bound, sheet.largest_speed())
-        for queue, value in zip(queues, values):
-            number, state = start(sheet, at(queue, 201, 1))
-            assert (number, state) == (0, at(queue))
+        for queue, value, first in zip(queues, values, plan):
+            number, state, speed = start(sheet, plan, at(queue, 201, 1))
             if value == NONE_VALUE:
                 _, size, deadline = sheet.jobs[0]
-                assert both(sheet, plan, state, size, deadline) == 16
+                assert (number, state, speed) == (16, State(), 0)
+                assert both(sheet, plan, at(queue), size, deadline) == 16
                 unplanned += 1
             else:
-                assert energy_of_lists(sheet, plan, state) == value, (sheet, queue)
+                assert (number, state, speed) == (0, at(queue), first)
+                assert energy_of_lists(sheet, plan, state, speed) == value, (sheet, queue)
                 planned += 1
     assert planned > 100 and unplanned > 20, (planned, unplanned)
 
@@ -526,6 +626,10 @@ if __name__ == "__main__":
     check_energies()
     check_no_plan()
     check_damaged()
+    check_places()
+    check_new_slot()
+    check_last_slot()
     check_order()
+    check_order_of_bytes()
     check_runs()
     print("ok")
