@@ -65,8 +65,8 @@ pub record Stepped : Type 0 where
   pub state : State
   pub speed : ℕ
 
--- by its number: where that is 0, a state and the speed of the slot that begins there; else another state, and [1]: "a refused call's speed
--- is 0"
+-- by its number: where that is 0, a state and the speed of the slot that begins there; else another state, and no speed. 01: "A refused speed
+-- is 0". [1]: "a refused call's speed is 0"
 abbrev pub steppedBy : (number : ℕ) (given : State) (speed : ℕ) (refused : State) → Stepped
 steppedBy number given speed refused =
     record { number = number; state = cond (eqb number 0) given refused; speed = cond (eqb number 0) speed 0 }
