@@ -22,7 +22,7 @@ use Rattle.model.proofs.Leaves.{one-value}
 use Rattle.model.proofs.Refusal.{accepted}
 use Rattle.laws.proofs.Rooms.{plan-accepted}
 use Rattle.laws.proofs.Stepper.{state-right, byte-at}
-use Rattle.laws.proofs.Stepping.{no-way-start, no-way-16}
+use Rattle.laws.proofs.Stepping.{no-way-start, no-way-advance}
 use Rattle.planner.specs.declared.calls.PlanAnswer.{PlanAnswer}
 use Rattle.stepper.specs.Calls.{stateOf}
 use Rattle.stepper.specs.declared.state.State.{State}
@@ -100,7 +100,7 @@ module _ {sheet : Sheet} {values₀ plan₀ values bytes : List ℕ} {a : PlanAn
   advance-is-16 x six right no-way {size} {deadline} advanced =
       let (queue-right, upto, _) = state-right s (stateOf x) right in
       let before = before-end x six queue-right no-way upto in
-      let law = no-way-16 s bytes (stateOf x) (has-room call planned) right before (byte-none x six queue-right no-way before) size deadline in
+      let law = no-way-advance s bytes (stateOf x) (has-room call planned) right before (byte-none x six queue-right no-way before) size deadline in
       let promised = advance-is advanced in (
         promised .number-is ∙ ap (λ (r : model.Stepped). r .number) law,
         state-same (promised .state-is ∙ ap (λ (r : model.Stepped). r .state) law),

@@ -1,7 +1,7 @@
 -- No count wraps or goes below 0, over the actual contracts of `start` and `advance`: whatever the plan bytes, where an advance answers 0,
 -- each total after it is what the speed told left of the one before, or 0, plus what came; and every count has room in its 32 bits
--- (`no-count-wraps`). The speed that a start or an advance tells with the state that it gives is the plan's there, on the sheet, and enough
--- for what is due within one slot (`start-tells`, `advance-tells`); at the horizon it is 255.
+-- (`no-count-wraps`). The speed that a start or an advance tells with the state that it gives is that of the slot that begins there, on the
+-- sheet, and enough for what is due within one slot (`start-tells`, `advance-tells`).
 use Prim.Native.Nat.{ℕ, suc, _+_, _*_, _-_, min, _≤_, _<_}
 use mathlib.Core.Path.{_≡_, refl, sym, ap, _∙_, subst}
 use mathlib.Core.Bool.{Bool, true, false, cond}
@@ -21,7 +21,7 @@ use Rattle.model.proofs.View.{speed-least, place-of}
 use Rattle.model.proofs.Queues.{length-in, length-slot, length-places, total-places, total-past, total-slot, in-first-places, bearable-upto}
 use Rattle.model.proofs.Refusal.{Ranged, accepted}
 use Rattle.laws.proofs.Rooms.{row-accepted}
-use Rattle.laws.proofs.Stepper.{state-right, start-by, advance-by, byte-at, byte-on-sheet, byte-enough, begins-at-end, begins-before, start-accepted, ending-accepted, moved-by, advance-accepted, start-number, advance-number}
+use Rattle.laws.proofs.Stepper.{state-right, start-by, advance-by, byte-on-sheet, byte-enough, begins-before, start-accepted, ending-accepted, moved-by, advance-accepted, start-number, advance-number}
 use Rattle.laws.proofs.Stepping.{energy-small}
 use Rattle.slot.proofs.Places.{total-in}
 use Rattle.stepper.specs.Calls.{stateOf}
@@ -61,24 +61,10 @@ module _ (sheet : Sheet) (bytes : List ℕ) (x : State) where
   abbrev byte : ℕ
   byte = model.planByte s bytes before
 
-  -- where the plan byte passes 16, or the state is at the horizon, the speed of the slot that begins there
-  told-so : Ranged s → T (model.beginsRight s bytes before) → SpeedTold sheet bytes x (model.speedNow s bytes before)
-  told-so ranges right =
-      record {
-        planned = λ h. now h .0 ∙ byte-at s bytes before;
-        is-enough = λ h.
-            let passes = subst T (now h .1) right in
-            subst (SpeedEnough sheet x) (sym (now h .0))
-            (record {
-              on-sheet = byte-on-sheet s before byte passes;
-              enough = omega (arith, byte-enough s before byte passes, total-in (s .bound) (x .queue) 1 (ranges .bound-low));
-            });
-        at-end = λ last. begins-at-end s bytes before last .0;
-      }
-    where
-      now : x .slot < s .horizon →
-          (model.speedNow s bytes before ≡ byte) × (model.beginsRight s bytes before ≡ model.byteRight s before byte)
-      now h = begins-before s bytes before (λ q. omega arith)
+  -- before the horizon the speed of the slot that begins is the plan byte, of which 16 asks
+  now : x .slot < s .horizon →
+      (model.speedNow s bytes before ≡ byte) × (model.beginsRight s bytes before ≡ model.byteRight s before byte)
+  now h = begins-before s bytes before (λ q. omega arith)
 
   -- an advance by the arrival that is not refused, from a state whose queue stands in six places, which is what the machine gives
   module _ (size deadline : ℕ) (six : length (x .queue) ≡ positions) (zero : model.advanceRefusal s bytes before size deadline ≡ 0) where
@@ -183,7 +169,7 @@ module _ (sheet : Sheet) (bytes : List ℕ) (x : State) where
   no-count-wraps {size} {deadline} {told} {b} six tells call e =
       let zero = quiet call e in
       let not-last = ending size deadline six zero .2 in
-      let told-byte = tells .planned not-last ∙ sym (byte-at s bytes before) in
+      let told-byte = tells .speed-is ∙ now not-last .0 in
       let moved = advance-is call .state-is ∙ ap (λ (r : model.Stepped). r .state) (advance-by s bytes before size deadline zero) ∙
       moved-by s before byte size deadline in (
         tells .is-enough not-last,
@@ -194,9 +180,19 @@ module _ (sheet : Sheet) (bytes : List ℕ) (x : State) where
   -- the speed told with a state that a call gave, where the model says which
   told-with : Ranged s → {given : model.State} {speed : ℕ} → before ≡ given → speed ≡ model.speedNow s bytes given →
       T (model.beginsRight s bytes given) → SpeedTold sheet bytes x speed
-  told-with ranges e speed-is right =
-      subst (SpeedTold sheet bytes x) (sym (speed-is ∙ ap (model.speedNow s bytes) (sym e)))
-      (told-so ranges (subst (λ (y : model.State). T (model.beginsRight s bytes y)) (sym e) right))
+  told-with ranges e speed-given right-given =
+      let speed-is = speed-given ∙ ap (model.speedNow s bytes) (sym e) in
+      let right = subst (λ (y : model.State). T (model.beginsRight s bytes y)) (sym e) right-given in
+      record {
+        speed-is = speed-is;
+        is-enough = λ h.
+            let passes = subst T (now h .1) right in
+            subst (SpeedEnough sheet x) (sym (speed-is ∙ now h .0))
+            (record {
+              on-sheet = byte-on-sheet s before byte passes;
+              enough = omega (arith, byte-enough s before byte passes, total-in (s .bound) (x .queue) 1 (ranges .bound-low));
+            });
+      }
 
 -- start: where it answers 0, the speed told with the state that it gives
 pub start-tells : {sheet : Sheet} {bytes : List ℕ} {x : State} {b : Stepped} → Starts x sheet bytes b → b .number ≡ 0 →

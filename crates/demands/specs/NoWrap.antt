@@ -6,11 +6,10 @@ use mathlib.Core.List.{List}
 use mathlib.Core.Logic.{_⊎_}
 use lib.Dec.{T}
 use Rattle.model.specs.View.{viewOf, onSheet, energyOf, M}
-use Rattle.model.specs.Plan.{noSpeed, byteOfQueue}
 use Rattle.model.specs.Queue.{total}
 use Rattle.model.specs.declared.Sheet.{Sheet}
 use Rattle.stepper.specs.declared.state.State.{State}
-use Rattle.demands.specs.Runs.{queueOfState}
+use Rattle.demands.specs.Runs.{speedOfState}
 
 -- w(u) as it stands in a state
 abbrev pub work : State → ℕ → ℕ
@@ -44,11 +43,10 @@ pub record SpeedEnough (sheet : Sheet) (x : State) (speed : ℕ) : Type 0 where
   pub on-sheet : T (onSheet (viewOf sheet) speed)
   pub enough : work x 1 ≤ speed
 
--- the speed that is told with a state: the plan's for its slot and queue, which is enough; 255 at the horizon
+-- the speed that is told with a state: the one of the slot that begins there, which is enough; at the horizon none begins
 pub record SpeedTold (sheet : Sheet) (bytes : List ℕ) (x : State) (speed : ℕ) : Type 0 where
-  pub planned : x .slot < viewOf sheet .horizon → speed ≡ byteOfQueue (viewOf sheet) bytes (x .slot) (queueOfState sheet x)
+  pub speed-is : speed ≡ speedOfState sheet bytes x
   pub is-enough : x .slot < viewOf sheet .horizon → SpeedEnough sheet x speed
-  pub at-end : x .slot ≡ viewOf sheet .horizon → speed ≡ noSpeed
 
 -- what a slot at this speed and then this arrival make of the counts of `before`
 pub record NoneWraps (sheet : Sheet) (before : State) (speed size deadline : ℕ) (after : State) : Type 0 where

@@ -102,10 +102,10 @@ module _ (s : View) where
       (start-refusal-begins s plan x e (holds-true (queueRight s x) right) ∙ check-false (beginsRight s plan (begun x)) 16 wrong)
 
   -- and so is an advance before the horizon, whatever arrives
-  pub no-way-16 : (plan : List ℕ) (x : State) → rowRefusal s (length plan) ≡ 0 → T (stateRight s x) → x .slot < s .horizon →
+  pub no-way-advance : (plan : List ℕ) (x : State) → rowRefusal s (length plan) ≡ 0 → T (stateRight s x) → x .slot < s .horizon →
       planByte s plan x ≡ noSpeed →
       (size deadline : ℕ) → advance s plan x size deadline ≡ record { number = 16; state = x; speed = 0 }
-  no-way-16 plan x e right before none size deadline =
+  no-way-advance plan x e right before none size deadline =
       let refusal = ending-refusal-16-or-0 s plan x e (holds-true (stateRight s x) right) (λ q. omega arith) ∙
       check-false (byteRight s x (planByte s plan x)) 16 (none-wrong plan x e none) in
       advance-by s plan x size deadline (advance-refusal-ending s plan x size deadline (sym refusal) (λ q. omega arith))
