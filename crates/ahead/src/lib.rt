@@ -4,6 +4,8 @@
 //
 // It reads the lanes of the entries, a crate of their own, entry_lanes: each sum costs one look-up per entry (sums), and what is ahead is
 // filled block by block (pass).
+#![tactic(auto)]
+
 mod pass;
 mod sums;
 

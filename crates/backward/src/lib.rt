@@ -6,6 +6,8 @@
 // then each speed of each queue costs one look-up. So a slot's work grows with the queues after a slot times the jobs, and with the
 // queues times the speeds, and not with queues times speeds times jobs. No queue is numbered while a slot is planned: where each look-up
 // goes is worked out once per plan, along blocks of queues.
+#![tactic(auto)]
+
 mod slots;
 
 pub use slots::{Slot, fill, fill_end, slot_with};

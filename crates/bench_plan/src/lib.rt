@@ -1,4 +1,6 @@
 // The planner as the benchmark's C program calls it (tests/bench): one function for `rt staticlib`, which nothing else needs.
+#![tactic(auto)]
+
 ghost use Rattle.bench_plan.specs.Planned.{IsPlanned};
 
 // Reads the bytes of a sheet and plans it in lent memory; answers the reader's number or, where that is 0, the planner's.

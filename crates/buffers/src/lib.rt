@@ -1,5 +1,7 @@
 // What a lent buffer holds once it is filled, or once bytes are laid over it: definitions (specs/) and laws (proofs/) for every crate that
 // does so; and the one function that lays bytes.
+#![tactic(auto)]
+
 ghost use Rattle.std.specs.Prelude.{◌+◌, ◌≤◌, length};
 ghost use Rattle.buffers.specs.Laid.{Laid};
 

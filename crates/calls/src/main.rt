@@ -1,5 +1,7 @@
 // Reads a script from standard input, a line for a call, and answers each line; docs/CALLS.md describes it. It is thin: what it calls is
 // proved, and it only lends the memory. What it prints is tested and not proved.
+#![tactic(auto)]
+
 mod input;
 mod kinds;
 mod line;

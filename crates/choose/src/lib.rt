@@ -3,6 +3,8 @@
 //
 // It reads the lanes of the speeds, a crate of their own, speed_lanes: each queue costs one look-up per speed (least), and a row is filled
 // block by block (row).
+#![tactic(auto)]
+
 mod least;
 mod row;
 

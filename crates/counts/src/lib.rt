@@ -2,6 +2,8 @@
 //
 // Each function that names a constant builds it anew, and 9,408 bytes are too many for reading one count. So whoever needs counts asks for
 // the table once and lends it.
+#![tactic(auto)]
+
 ghost use Rattle.std.specs.Prelude.{◌≡◌};
 ghost use Rattle.model.specs.Queue.{continuation_count};
 ghost use Rattle.counts.specs.Counts.{InTable, HoldsCounts};

@@ -1,4 +1,6 @@
 // A number in decimal, put at a place of lent bytes (decimal), and the line that is written for a refusal (refusal).
+#![tactic(auto)]
+
 mod decimal;
 mod refusal;
 

@@ -1,1 +1,2 @@
 // The three demands as theorems (proofs/). This crate has no code.
+#![tactic(auto)]

@@ -1,5 +1,7 @@
 // One number of a sheet's bytes: groups of seven bits, the lowest first, the high bit set on every byte but the last; at most three bytes,
 // the shortest form only.
+#![tactic(auto)]
+
 ghost use Rattle.std.specs.Prelude.{◌≡◌, ◌≤◌, ◌<◌};
 ghost use Rattle.fields.specs.Answers.{field_answer, refusal_number, Short};
 ghost use Rattle.model.specs.Reading.{number_in, field};

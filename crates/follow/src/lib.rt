@@ -3,6 +3,8 @@
 // the least over all the speeds instead.
 //
 // It reads the lanes of the speeds as that one does: each queue costs one look-up (cost), and a row is filled block by block (row).
+#![tactic(auto)]
+
 mod cost;
 mod row;
 

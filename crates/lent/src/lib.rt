@@ -1,4 +1,6 @@
 // Whether lent memory has room for a plan and its values: the test that every call makes first that is lent both.
+#![tactic(auto)]
+
 ghost use Rattle.std.specs.Prelude.{◌≡◌};
 ghost use Rattle.model.specs.View.{view_of};
 ghost use Rattle.model.specs.Plan.{plan_refusal};

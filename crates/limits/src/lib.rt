@@ -2,6 +2,8 @@
 // too many. All of it is for a sheet whose fields are in range (4 to 8).
 //
 // A sheet is handed on by value: nothing here changes it. Places past the counts are never looked at.
+#![tactic(auto)]
+
 ghost use Rattle.std.specs.Prelude.{◌≡◌, ◌*◌, ◌^◌, ◌≤◌, max, leb};
 ghost use Rattle.model.specs.View.{view_of, W, M, greatest_energy, G};
 ghost use Rattle.model.specs.Refusal.{fields_refusal, limits_refusal, N, value_limit};

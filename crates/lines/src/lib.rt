@@ -1,5 +1,7 @@
 // The parts of a listing, put into lent bytes: the header (header), and a line for each slot (lines). Every function here is internal: its
 // callers have tested the sheet and the lengths of what is lent.
+#![tactic(auto)]
+
 mod header;
 mod lines;
 

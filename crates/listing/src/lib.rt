@@ -1,6 +1,8 @@
 // The listing of a planned sheet, put into lent bytes: the call (call). Its parts are in crates of their own, decimals and lines.
 //
 // The call takes every input: any sheet in memory, any plan bytes, any buffer. What it refuses, it refuses with a number.
+#![tactic(auto)]
+
 mod call;
 
 pub use call::{Listed, list};

@@ -1,4 +1,6 @@
 // What is looked up on a sheet: a speed's place and its energy, and whether an arrival is an entry.
+#![tactic(auto)]
+
 ghost use Rattle.std.specs.Prelude.{◌≡◌, ◌&&◌, T, eqb};
 ghost use Rattle.model.specs.View.{view_of, place_of_speed, on_sheet, energy_of};
 ghost use Rattle.model.specs.Refusal.{fields_refusal};

@@ -1,5 +1,6 @@
 // The sheet as it stands in memory. Every number is a `u32`, so that any value that bytes can carry can stand here; a call that is given a
 // number out of range refuses it. What the sheet means is said in specs/; this crate has no code.
+#![tactic(auto)]
 
 // A speed and its energy per slot.
 #[derive(Drop)]

@@ -1,5 +1,7 @@
 // The planning program: reads a sheet from standard input, plans it, and writes the listing, or `refused n`. It is thin: the reader, the
 // planner and the listing are proved, and it only lends them memory.
+#![tactic(auto)]
+
 use libc::{STDIN_FILENO, STDOUT_FILENO};
 use model::Sheet;
 

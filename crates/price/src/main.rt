@@ -1,5 +1,7 @@
 // The pricing program: reads a sheet from standard input and writes what the old rule costs on it, beside the least energy, and the rule's
 // plan; or `refused n`, as the planning program does. It is thin: what it calls is proved, and it only lends the memory.
+#![tactic(auto)]
+
 ghost use Rattle.std.specs.Prelude.{◌+◌, ◌≤◌, length};
 
 use buffers::lay;

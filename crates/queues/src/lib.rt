@@ -3,6 +3,8 @@
 //
 // `largest` is the largest speed M, `bound` the deadline bound D. Every function here is internal: its callers have tested the sheet, so
 // that M is from 1 to 8 and D at most 6.
+#![tactic(auto)]
+
 ghost use Rattle.std.specs.Prelude.{◌≡◌, ℕ, suc, ◌+◌, ◌<◌, [], get_or};
 ghost use Rattle.process.specs.Sums.{sum};
 ghost use Rattle.model.specs.Queue.{queue_in, places_of, bearable_queues, queue_count, number_of, continuation_count};

@@ -1,5 +1,7 @@
 // The range of each field of a sheet, and the number of one speed and of one job. The reader tests each field by its range as it reads it;
 // the tests of a sheet in memory use the same ranges.
+#![tactic(auto)]
+
 ghost use Rattle.std.specs.Prelude.{◌≡◌};
 ghost use Rattle.model.specs.Tests.{within};
 ghost use Rattle.model.specs.Refusal.{bound_right, speed_count_right, speed_right, energy_right, horizon_right, job_count_right, weight_right, size_right, deadline_right, refusal_of_speed, refusal_of_job};

@@ -1,5 +1,7 @@
 // The reader: the fields in order, each tested before the next one is read; after the last, 3, 9 and 10. Its call takes any bytes. What it
 // refuses, it refuses with a number.
+#![tactic(auto)]
+
 ghost use Rattle.std.specs.Prelude.{◌≡◌};
 ghost use Rattle.reader.specs.Calls.{IsRead};
 ghost use Rattle.reader.specs.Answers.{sheet_given};

@@ -2,6 +2,8 @@
 // (sizes). The range of each field, and 9 and 10 over what a whole sheet's numbers come to, are crates of their own, ranges and limits.
 //
 // A sheet is handed on by value: nothing here changes it. Places past the counts are never looked at.
+#![tactic(auto)]
+
 mod refusal;
 mod sizes;
 

@@ -3,6 +3,8 @@
 //
 // `largest` is the largest speed M, `bound` the deadline bound D. Every function here is internal: its callers have tested the sheet, so
 // that M is from 1 to 8 and D at most 6.
+#![tactic(auto)]
+
 ghost use Rattle.std.specs.Prelude.{◌≡◌, ◌+◌, ◌-◌, ◌≤◌, ◌<◌};
 ghost use Rattle.model.specs.Queue.{total, queue_in, places_of, bearable_at, bearable, unused_zero, bearable_in, run, arrive, one_slot};
 ghost use Rattle.slot.specs.Slot.{Small};

@@ -4,6 +4,8 @@
 //
 // Every call takes every input and tests it itself: any sheet, any plan bytes, any state, any arrival. No total of a bearable queue is
 // above 48 and no size on a sheet above 255, so that no count of work wraps; and none goes below 0.
+#![tactic(auto)]
+
 mod speeds;
 mod state;
 mod step;

@@ -1,4 +1,6 @@
 // The tables of a sheet's bytes: one speed with its energy, one job, and as many of them as their count says.
+#![tactic(auto)]
+
 ghost use Rattle.std.specs.Prelude.{◌≡◌, ◌≤◌, replicate};
 ghost use Rattle.fields.specs.Answers.{refusal_number};
 ghost use Rattle.tables.specs.Answers.{speed_answer, job_answer, table_answer, in_memory_as, speed_places, job_places};

@@ -1,6 +1,8 @@
 // One value: a whole number or none, in the code and at a place of a lent buffer. The planner works with values through these functions
 // alone, and what they promise is said over a width (model/specs/Width.antt), so that a planner of wider values differs from this one only
 // in its `use` lines.
+#![tactic(auto)]
+
 ghost use Rattle.std.specs.Prelude.{◌≡◌, false, suc, ◌*◌, ◌≤◌, leb, length};
 ghost use Rattle.std.proofs.Math.Option.{none, some};
 ghost use Rattle.process.specs.Recursion.{plus, times};

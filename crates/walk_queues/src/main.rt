@@ -1,5 +1,7 @@
 // Walks, for a few sizes, every list of totals up to one more than is bearable at each position, in dictionary order. It counts the
 // bearable ones, and among these the ones whose number is how many bearable ones came before, and gives the queue back.
+#![tactic(auto)]
+
 ghost use Rattle.std.specs.Prelude.{◌+◌, ◌≤◌, ◌<◌};
 ghost use Rattle.counts.specs.Counts.{HoldsCounts};
 ghost use Rattle.queues.specs.Order.{Ranges, Numbered};

@@ -1,5 +1,7 @@
 // The writer: puts a sheet's bytes into a lent buffer. It puts them into an array of its own first, so that a refused write touches
 // nothing. Its call takes any sheet in memory and any buffer. What it refuses, it refuses with a number.
+#![tactic(auto)]
+
 ghost use Rattle.std.specs.Prelude.{◌≡◌, ◌+◌, ◌^◌, ◌≤◌, ◌<◌, ◌++◌, length};
 ghost use Rattle.writer.specs.Calls.{IsWritten};
 ghost use Rattle.buffers.specs.Laid.{Laid};

@@ -1,4 +1,0 @@
-pub mod Sums
-pub mod Ways
-pub mod Recursion
-pub mod Pairing
