@@ -20,7 +20,7 @@ use value::Value;
 
 // A slot as it is planned: how many slots are left after it, the places where its row of values, the next slot's row of values and its row
 // of the plan begin, and W to the power of the slots left, this one counted.
-#[derive(Drop)]
+#[derive(Clone, Copy)]
 pub struct Slot {
     pub left: u32,
     pub this: usize,

@@ -2,14 +2,14 @@
 use libc::STDIN_FILENO;
 
 // The next byte of the input, where there is one.
-#[derive(Drop)]
+#[derive(Clone, Copy)]
 struct Byte {
     present: bool,
     byte: u8,
 }
 
 // How long a line is, more than its room holds where it is too long; and whether there was a line.
-#[derive(Drop)]
+#[derive(Clone, Copy)]
 pub struct Line {
     pub length: usize,
     pub present: bool,

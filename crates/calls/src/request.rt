@@ -25,7 +25,7 @@ pub const NOT_LENT: u32 = 7;
 // The kind of a line, and how many words say it; how many numbers were taken, and the first two of them; the place behind what was taken,
 // and the place where the numbers to be put into memory begin; how far the line has been taken, and the greatest number that was allowed
 // where it is wrong.
-#[derive(Drop)]
+#[derive(Clone, Copy)]
 pub struct Request {
     pub kind: usize,
     pub words: u64,

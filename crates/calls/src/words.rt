@@ -8,14 +8,14 @@ pub const DECIMAL: u64 = 10;
 pub const HEX: u64 = 16;
 
 // A word: its first place and the place behind it, which are the same where no word is left.
-#[derive(Drop)]
+#[derive(Clone, Copy)]
 pub struct Word {
     pub from: usize,
     pub to: usize,
 }
 
 // A number, where there is one.
-#[derive(Drop)]
+#[derive(Clone, Copy)]
 pub struct Number {
     pub right: bool,
     pub value: u64,

@@ -17,7 +17,7 @@ use value::Value;
 const NO_SPEED: u32 = 255;
 
 // The least so far: a speed and what it costs; 255 and none where there is no speed yet.
-#[derive(Drop)]
+#[derive(Clone, Copy)]
 pub struct Chosen {
     pub speed: u32,
     pub value: Value,

@@ -7,7 +7,7 @@ ghost use Rattle.fields.specs.Answers.{field_answer, refusal_number, Short};
 ghost use Rattle.model.specs.Reading.{number_in, field};
 
 // A value with its next place, or a refusal's number: 1 or 2.
-#[derive(Drop)]
+#[derive(Clone, Copy)]
 pub enum Field {
     Value(u32, usize),
     Refused(u32),

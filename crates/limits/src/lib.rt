@@ -26,7 +26,7 @@ pub fn larger(a: u32, b: u32) -> u32
 }
 
 // The largest speed M and the greatest energy, which need not belong together.
-#[derive(Drop)]
+#[derive(Clone, Copy)]
 pub struct Greatest {
     pub speed: u32,
     pub energy: u32,

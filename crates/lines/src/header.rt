@@ -11,7 +11,7 @@ use limits::weights;
 use model::Sheet;
 
 // What the header tells.
-#[derive(Drop)]
+#[derive(Clone, Copy)]
 pub struct Header {
     pub queues: usize,
     pub scale: u64,

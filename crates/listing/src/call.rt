@@ -13,7 +13,7 @@ use model::Sheet;
 use sheets::sizes_of;
 
 // The number 0 with how many bytes were written, or a refusal's number with 0.
-#[derive(Drop)]
+#[derive(Clone, Copy)]
 pub struct Listed {
     pub number: u32,
     pub length: usize,

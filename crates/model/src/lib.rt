@@ -3,14 +3,14 @@
 #![tactic(auto)]
 
 // A speed and its energy per slot.
-#[derive(Drop)]
+#[derive(Clone, Copy)]
 pub struct Speed {
     pub speed: u32,
     pub energy: u32,
 }
 
 // An entry of the job table: how often it comes, how much work it brings and how soon that is due.
-#[derive(Drop)]
+#[derive(Clone, Copy)]
 pub struct Job {
     pub weight: u32,
     pub size: u32,
@@ -18,7 +18,7 @@ pub struct Job {
 }
 
 // Places past the counts are ignored by every call, and zero when read.
-#[derive(Drop)]
+#[derive(Clone, Copy)]
 pub struct Sheet {
     pub bound: u32,
     pub speed_count: u32,

@@ -9,7 +9,7 @@ use model::Sheet;
 use sheets::sizes_of;
 
 // What the rule's call answers: its number, and how many queues there are.
-#[derive(Drop)]
+#[derive(Clone, Copy)]
 pub struct RuleAnswer {
     pub number: u32,
     pub queues: u32,

@@ -15,7 +15,7 @@ use sheets::sizes_of;
 use value::Value;
 
 // What a plan answers: its number, how many queues there are, and the least energy from the empty queue at slot 0.
-#[derive(Drop)]
+#[derive(Clone, Copy)]
 pub struct PlanAnswer {
     pub number: u32,
     pub queues: u32,

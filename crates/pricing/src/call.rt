@@ -15,7 +15,7 @@ use sheets::sizes_of;
 use value::Value;
 
 // What pricing answers: its number, how many queues there are, and the price from the empty queue at slot 0.
-#[derive(Drop)]
+#[derive(Clone, Copy)]
 pub struct PriceAnswer {
     pub number: u32,
     pub queues: u32,

@@ -69,7 +69,7 @@ pub fn number(counts: &[u32; 2352], largest: u32, bound: usize, queue: [u32; 6])
 }
 
 // A queue that is being found: its last total so far, the slack there, and its place in the list of all that may follow.
-#[derive(Drop)]
+#[derive(Clone, Copy)]
 struct Found {
     total: u32,
     slack: u32,

@@ -16,7 +16,7 @@ use ranges::{bound_right, horizon_right};
 use tables::{JobTable, SpeedTable, job_table_at, speed_table_at, zero_jobs, zero_speeds};
 
 // The number 0 with the sheet, or a refusal's number with an all-zero sheet.
-#[derive(Drop)]
+#[derive(Clone, Copy)]
 pub struct ReadSheet {
     pub number: u32,
     pub sheet: Sheet,

@@ -12,7 +12,7 @@ use queues::queue_count;
 // The largest speed M, the greatest energy, the deadline bound D, the number of queues N, and how many queues there are after a slot,
 // before an arrival: those of one position fewer, since the last total then stands twice. All queues come in as many blocks as that; the
 // queues after a slot come in `blocks` blocks.
-#[derive(Drop)]
+#[derive(Clone, Copy)]
 pub struct Sizes {
     pub largest: u32,
     pub energy: u32,

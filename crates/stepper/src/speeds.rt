@@ -16,7 +16,7 @@ use sheets::Sizes;
 const NO_SPEED: u32 = 255;
 
 // A number and a speed; where the number is not 0, the speed is.
-#[derive(Drop)]
+#[derive(Clone, Copy)]
 pub struct Told {
     pub number: u32,
     pub speed: u32,

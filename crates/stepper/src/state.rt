@@ -14,7 +14,7 @@ use sheets::sizes_of;
 use slot::bearable_in;
 
 // A queue in its six places, the number of the slot, and the energy spent.
-#[derive(Drop)]
+#[derive(Clone, Copy)]
 pub struct State {
     pub queue: [u32; 6],
     pub slot: u32,
@@ -22,7 +22,7 @@ pub struct State {
 }
 
 // What a start or an advance answers: its number, the state to go on from, and the speed of the slot that begins there.
-#[derive(Drop)]
+#[derive(Clone, Copy)]
 pub struct Stepped {
     pub number: u32,
     pub state: State,

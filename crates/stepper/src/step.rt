@@ -17,7 +17,7 @@ use slot::{bearable, one_slot};
 const MOST_ENERGY: u32 = 4294967295;
 
 // A number and, where that is 0, the next state.
-#[derive(Drop)]
+#[derive(Clone, Copy)]
 pub struct NextState {
     pub number: u32,
     pub state: State,

@@ -15,7 +15,7 @@ use ranges::{
 };
 
 // A speed with its energy and the next place, or a refusal's number.
-#[derive(Drop)]
+#[derive(Clone, Copy)]
 enum SpeedRead {
     Value(Speed, usize),
     Refused(u32),
@@ -54,7 +54,7 @@ fn speed_at(bytes: &[u8], at: usize, place: u32, before: u32) -> SpeedRead
 
 // A table of speeds, zero past its count, with the number 0 and the next place; or, where it is refused, the refusal's number. A struct,
 // since an enum cannot hold an array.
-#[derive(Drop)]
+#[derive(Clone, Copy)]
 pub struct SpeedTable {
     pub number: u32,
     pub next: usize,
@@ -127,7 +127,7 @@ pub fn speed_table_at(bytes: &[u8], at: usize) -> SpeedTable
 }
 
 // A job and the next place, or a refusal's number.
-#[derive(Drop)]
+#[derive(Clone, Copy)]
 enum JobRead {
     Value(Job, usize),
     Refused(u32),
@@ -180,7 +180,7 @@ fn job_at(bytes: &[u8], at: usize, bound: u32) -> JobRead
 
 // A table of jobs, zero past its count, with the number 0 and the next place; or, where it is refused, the refusal's number. A struct,
 // since an enum cannot hold an array.
-#[derive(Drop)]
+#[derive(Clone, Copy)]
 pub struct JobTable {
     pub number: u32,
     pub next: usize,

@@ -15,7 +15,7 @@ ghost use Rattle.value.specs.Values.{Fits, missing, less_than};
 const NONE: u64 = 18446744073709551615;
 
 // A value: its number, or NONE.
-#[derive(Drop)]
+#[derive(Clone, Copy)]
 pub struct Value {
     pub number: u64,
 }

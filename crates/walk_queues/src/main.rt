@@ -7,7 +7,7 @@ ghost use Rattle.counts.specs.Counts.{HoldsCounts};
 ghost use Rattle.queues.specs.Order.{Ranges, Numbered};
 
 // How many bearable queues were met, and how many of them stood at their numbers.
-#[derive(Drop)]
+#[derive(Clone, Copy)]
 struct Walked {
     queues: u64,
     right: u64,

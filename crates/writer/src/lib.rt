@@ -16,7 +16,7 @@ use model::{Job, Sheet, Speed};
 use sheets::sheet_refusal;
 
 // The number 0 with how many bytes were written, or a refusal's number with 0.
-#[derive(Drop)]
+#[derive(Clone, Copy)]
 pub struct Written {
     pub number: u32,
     pub length: usize,
