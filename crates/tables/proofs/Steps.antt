@@ -2,14 +2,13 @@
 -- range ensures and how it came out. Each reader that begins with a field tests it before the rest is read.
 use Prim.Native.Nat.{ℕ, ◌<◌}
 use mathlib.Core.Path.{◌≡◌, refl, sym, ap, ◌∙◌}
-use mathlib.Core.Bool.{Bool, true, false, not}
+use mathlib.Core.Bool.{Bool, true, false}
 use mathlib.Core.List.{List}
 use Rattle.laws.proofs.Readers.{Positive, tested}
 use Rattle.model.specs.Reading.{Answer, refused, Reader, done, field, read_speed, read_speeds, read_speed_table, read_job, read_jobs, read_job_table}
 use Rattle.model.specs.Refusal.{speed_count_right, speed_right, energy_right, job_count_right, weight_right, size_right, deadline_right}
 use Rattle.model.specs.declared.Job.{Job}
 use Rattle.model.specs.declared.Speed.{Speed}
-use Rattle.ranges.proofs.Answers.{passed_by, failed_by}
 use Rattle.fields.specs.Answers.{field_answer, refusal_number}
 use Rattle.fields.specs.declared.Field.{Field}
 use Rattle.fields.specs.declared.Field.TheVariants as field
@@ -48,13 +47,13 @@ module _ {B : Type 0} {whole : Reader B} {right : ℕ → Bool} {number : ℕ} {
 
   -- a field that was read and is out of its range is refused with its number
   pub field_fails : {f : Field} {x next : ℕ} {r : Bool} → field_answer f ≡ field bytes at → f ≡ field.Value x next → r ≡ right x →
-      not r ≡ true → whole bytes at ≡ refused number
-  field_fails e d a t = rw (s.is, told field_answer e d, failed_by a t)
+      r ≡ false → whole bytes at ≡ refused number
+  field_fails e d a t = rw (s.is, told field_answer e d, sym a ∙ t)
 
   -- a field that was read and is in its range leaves it to the rest
   pub field_passes : {f : Field} {x next : ℕ} {r : Bool} → field_answer f ≡ field bytes at → f ≡ field.Value x next → r ≡ right x →
-      not r ≡ false → whole bytes at ≡ more x bytes next
-  field_passes e d a t = rw (s.is, told field_answer e d, passed_by a t)
+      r ≡ true → whole bytes at ≡ more x bytes next
+  field_passes e d a t = rw (s.is, told field_answer e d, sym a ∙ t)
 
 -- the readers that begin with a field, field by field
 
