@@ -12,7 +12,7 @@ pub returns-then-not-value_fits : goal.returns-then-not-value_fits
 unfolding limit_lines
 returns-then-not-value_fits c =
     let f = c.value_fits in
-    sym (then_fails _ 8 _ (failed_by f.ensures c.if-not-value_fits.taken))
+    sym (then_fails _ 8 _ (failed_by f.ensures c.if-not-value_fits.true))
 
 pub returns-then-queues_of-gt65535 : goal.returns-then-queues_of-gt65535
 unfolding limit_lines
@@ -20,8 +20,8 @@ returns-then-queues_of-gt65535 c =
     let s = view_of c.args.sheet in
     let f = c.value_fits in
     sym
-    (then_passes _ 9 _ (passed_by f.ensures c.if-not-value_fits.left) ∙
-    check_false _ 10 (lt-leb (N s) 65535 (rw c.queues_of.ensures at c.if-queues_of-gt65535.taken)))
+    (then_passes _ 9 _ (passed_by f.ensures c.if-not-value_fits.false) ∙
+    check_false _ 10 (lt-leb (N s) 65535 (rw c.queues_of.ensures at c.if-queues_of-gt65535.true)))
 
 pub returns : goal.returns
 unfolding limit_lines
@@ -29,5 +29,5 @@ returns c =
     let s = view_of c.args.sheet in
     let f = c.value_fits in
     sym
-    (then_passes _ 9 _ (passed_by f.ensures c.if-not-value_fits.left) ∙
-    check_true _ 10 (le-leb (N s) 65535 (rw c.queues_of.ensures at c.if-queues_of-gt65535.left)))
+    (then_passes _ 9 _ (passed_by f.ensures c.if-not-value_fits.false) ∙
+    check_true _ 10 (le-leb (N s) 65535 (rw c.queues_of.ensures at c.if-queues_of-gt65535.false)))
