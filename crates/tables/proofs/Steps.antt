@@ -9,6 +9,7 @@ use Rattle.model.specs.Reading.{Answer, refused, Reader, done, field, read_speed
 use Rattle.model.specs.Refusal.{speed_count_right, speed_right, energy_right, job_count_right, weight_right, size_right, deadline_right}
 use Rattle.model.specs.declared.Job.{Job}
 use Rattle.model.specs.declared.Speed.{Speed}
+use Rattle.ranges.proofs.Answers.{passed_by, failed_by}
 use Rattle.fields.specs.Answers.{field_answer, refusal_number}
 use Rattle.fields.specs.declared.Field.{Field}
 use Rattle.fields.specs.declared.Field.TheVariants as field
@@ -48,12 +49,12 @@ module _ {B : Type 0} {whole : Reader B} {right : ℕ → Bool} {number : ℕ} {
   -- a field that was read and is out of its range is refused with its number
   pub field_fails : {f : Field} {x next : ℕ} {r : Bool} → field_answer f ≡ field bytes at → f ≡ field.Value x next → r ≡ right x →
       r ≡ false → whole bytes at ≡ refused number
-  field_fails e d a t = rw (s.is, told field_answer e d, sym a ∙ t)
+  field_fails e d a t = rw (s.is, told field_answer e d, failed_by a t)
 
   -- a field that was read and is in its range leaves it to the rest
   pub field_passes : {f : Field} {x next : ℕ} {r : Bool} → field_answer f ≡ field bytes at → f ≡ field.Value x next → r ≡ right x →
       r ≡ true → whole bytes at ≡ more x bytes next
-  field_passes e d a t = rw (s.is, told field_answer e d, sym a ∙ t)
+  field_passes e d a t = rw (s.is, told field_answer e d, passed_by a t)
 
 -- the readers that begin with a field, field by field
 
