@@ -40,7 +40,7 @@ asked : (c : After-byte_right) →
     c.byte_right.result ≡ byte_right s (state_of a.state) (plan_byte s a.plan.now (state_of a.state))
 asked c =
     let a = c.args in
-    c.byte_right.ensures ∙ ap (byte_right (view_of a.sheet) (state_of a.state)) (byte «CTX After-byte_of_queue»)
+    c.byte_right.ensures ∙ ap (byte_right (view_of a.sheet) (state_of a.state)) (let fact : let a = c.args in c.byte_of_queue-byte.result ≡ plan_byte (view_of a.sheet) a.plan.now (state_of a.state) = let a = c.args in let s = view_of a.sheet in let sized = c.requires.0.sized in c.byte_of_queue-byte.ensures ∙ byte_is s sized a.plan.now a.state.slot _ ∙ sized_same sized (λ m D. byte_at s a.plan.now a.state.slot (number_of m (queue_in D a.state.queue))) ∙ sym (byte_at_lem s a.plan.now (state_of a.state)) in fact)
 
 pub byte_of_queue-byte-requires : goal.byte_of_queue-byte-requires
 byte_of_queue-byte-requires c =

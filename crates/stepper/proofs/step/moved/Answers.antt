@@ -36,7 +36,7 @@ asked : (c : After-bearable) →
     c.bearable.result ≡ bearable (M s) (queue_of s (moved s (state_of a.state) a.speed a.size a.deadline))
 asked c =
     let a = c.args in
-    asked_of_next (view_of a.sheet) (state_of a.state) a.speed a.size a.deadline c.requires.1 (queue_is «CTX After-one_slot»)
+    asked_of_next (view_of a.sheet) (state_of a.state) a.speed a.size a.deadline c.requires.1 (let fact : let a = c.args in c.one_slot-queue.result ≡ places_of (one_slot (queue_in a.sheet.bound a.state.queue) a.speed a.size a.deadline) = let a = c.args in c.one_slot-queue.ensures ∙ ap (λ (D : ℕ). places_of (one_slot (queue_in D a.state.queue) a.speed a.size a.deadline)) c.requires.1.bound_is in fact)
     c.bearable.ensures
 
 pub one_slot-queue-requires : goal.one_slot-queue-requires

@@ -64,7 +64,7 @@ is-moved c =
     let a = c.args in
     let s = view_of a.sheet in
     subst (λ (speed : ℕ). IsMoved s (model.moved s (state_of a.self) speed a.size a.deadline) c.moved-outcome.result.number c.moved-outcome.result.state)
-    (ended-zero c).1 c.moved-outcome.ensures
+    (let fact : let a = c.args in let s = view_of a.sheet in let x = state_of a.self in (model.ending_refusal s a.plan.now x ≡ 0) × (c.ending-ended.result.speed ≡ model.plan_byte s a.plan.now x) = let a = c.args in let s = view_of a.sheet in let x = state_of a.self in told_zero (model.ending_refusal s a.plan.now x) (model.plan_byte s a.plan.now x) c.ending-ended.ensures c.if-ended-ne0.false in fact).1 c.moved-outcome.ensures
 
 -- behind its tests neither 17 nor 18 is told, and it is the model's
 next_zero : (c : Else-outcome-ne0) →
@@ -74,7 +74,7 @@ next_zero : (c : Else-outcome-ne0) →
     let next = model.moved s x (model.plan_byte s a.plan.now x) a.size a.deadline in
     (model.next_refusal s next ≡ 0) × (state_of c.moved-outcome.result.state ≡ next)
 next_zero c =
-    let is = is-moved «CTX After-moved» in
+    let is = (let fact : let a = c.args in let s = view_of a.sheet in let x = state_of a.self in IsMoved s (model.moved s x (model.plan_byte s a.plan.now x) a.size a.deadline) c.moved-outcome.result.number c.moved-outcome.result.state = let a = c.args in let s = view_of a.sheet in subst (λ (speed : ℕ). IsMoved s (model.moved s (state_of a.self) speed a.size a.deadline) c.moved-outcome.result.number c.moved-outcome.result.state) (let fact : let a = c.args in let s = view_of a.sheet in let x = state_of a.self in (model.ending_refusal s a.plan.now x ≡ 0) × (c.ending-ended.result.speed ≡ model.plan_byte s a.plan.now x) = let a = c.args in let s = view_of a.sheet in let x = state_of a.self in told_zero (model.ending_refusal s a.plan.now x) (model.plan_byte s a.plan.now x) c.ending-ended.ensures c.if-ended-ne0.false in fact).1 c.moved-outcome.ensures in fact) in
     (sym is.number_is ∙ c.if-outcome-ne0.false, is.state_is c.if-outcome-ne0.false)
 
 -- what was told of it
@@ -89,11 +89,11 @@ begins-told c =
     let a = c.args in
     let s = view_of a.sheet in
     let x = state_of a.self in
-    let (zero, state_is) = next_zero c in
+    let (zero, state_is) = (let fact : let a = c.args in let s = view_of a.sheet in let x = state_of a.self in let next = model.moved s x (model.plan_byte s a.plan.now x) a.size a.deadline in (model.next_refusal s next ≡ 0) × (state_of c.moved-outcome.result.state ≡ next) = let is = (let fact : let a = c.args in let s = view_of a.sheet in let x = state_of a.self in IsMoved s (model.moved s x (model.plan_byte s a.plan.now x) a.size a.deadline) c.moved-outcome.result.number c.moved-outcome.result.state = let a = c.args in let s = view_of a.sheet in subst (λ (speed : ℕ). IsMoved s (model.moved s (state_of a.self) speed a.size a.deadline) c.moved-outcome.result.number c.moved-outcome.result.state) (let fact : let a = c.args in let s = view_of a.sheet in let x = state_of a.self in (model.ending_refusal s a.plan.now x ≡ 0) × (c.ending-ended.result.speed ≡ model.plan_byte s a.plan.now x) = let a = c.args in let s = view_of a.sheet in let x = state_of a.self in told_zero (model.ending_refusal s a.plan.now x) (model.plan_byte s a.plan.now x) c.ending-ended.ensures c.if-ended-ne0.false in fact).1 c.moved-outcome.ensures in fact) in (sym is.number_is ∙ c.if-outcome-ne0.false, is.state_is c.if-outcome-ne0.false) in fact) in
     let told = subst (λ (y : model.State). IsTold (told_beginning s a.plan.now y) c.beginning-begun.result.number c.beginning-begun.result.speed)
     state_is c.beginning-begun.ensures in
     let next = model.moved s x (model.plan_byte s a.plan.now x) a.size a.deadline in (
-      advance_refusal_begins s a.plan.now x a.size a.deadline (ended-zero c).0 (entry «CTX Else3») zero ∙ sym told.number_is,
+      advance_refusal_begins s a.plan.now x a.size a.deadline (let fact : let a = c.args in let s = view_of a.sheet in let x = state_of a.self in (model.ending_refusal s a.plan.now x ≡ 0) × (c.ending-ended.result.speed ≡ model.plan_byte s a.plan.now x) = let a = c.args in let s = view_of a.sheet in let x = state_of a.self in told_zero (model.ending_refusal s a.plan.now x) (model.plan_byte s a.plan.now x) c.ending-ended.ensures c.if-ended-ne0.false in fact).0 (let fact : let a = c.args in model.is_entry (view_of a.sheet) a.size a.deadline ≡ true = passed_by c.is_entry.ensures c.if-not-is_entry.false in fact) zero ∙ sym told.number_is,
       λ e. (told_zero (check (model.begins_right s a.plan.now next) 16) (model.speed_now s a.plan.now next) told e).1,
     )
 

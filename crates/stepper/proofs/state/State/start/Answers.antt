@@ -46,7 +46,7 @@ asked c =
 right : (c : Else-not-bearable_in) →
     let a = c.args in
     queue_right (view_of a.sheet) (state_of a.self) ≡ true
-right c = passed_by (asked «CTX After-bearable_in») c.if-not-bearable_in.false
+right c = passed_by (let fact : let a = c.args in c.bearable_in.result ≡ queue_right (view_of a.sheet) (state_of a.self) = let a = c.args in c.bearable_in.ensures ∙ sized_same c.sizes_of-sizes.ensures (λ m D. bearable_in m D a.self.queue) in fact) c.if-not-bearable_in.false
 
 -- the number, by what was told of slot 0
 number : (c : Else-not-bearable_in) →
@@ -55,7 +55,7 @@ number : (c : Else-not-bearable_in) →
     start_refusal s a.plan.now (state_of a.self) ≡ check (begins_right s a.plan.now (begun (state_of a.self))) 16
 number c =
     let a = c.args in
-    start_refusal_begins (view_of a.sheet) a.plan.now (state_of a.self) (passed c) (right c)
+    start_refusal_begins (view_of a.sheet) a.plan.now (state_of a.self) (let fact : let a = c.args in row_refusal (view_of a.sheet) (length a.plan.now) ≡ 0 = sym c.row_refusal-number.ensures ∙ c.if-number-ne0.false in fact) (right c)
 
 pub returns-then-number-ne0 : goal.returns-then-number-ne0
 returns-then-number-ne0 c =
