@@ -2,7 +2,7 @@
 -- range ensures and how it came out. Each reader that begins with a field tests it before the rest is read.
 use Prim.Native.Nat.{ℕ, ◌<◌}
 use mathlib.Core.Path.{◌≡◌, refl, sym, ap, ◌∙◌}
-use mathlib.Core.Bool.{Bool, true, false, not}
+use mathlib.Core.Bool.{Bool, true, false}
 use mathlib.Core.List.{List}
 use Rattle.laws.proofs.Readers.{Positive, tested}
 use Rattle.model.specs.Reading.{Answer, refused, Reader, done, field, read_speed, read_speeds, read_speed_table, read_job, read_jobs, read_job_table}
@@ -48,12 +48,12 @@ module _ {B : Type 0} {whole : Reader B} {right : ℕ → Bool} {number : ℕ} {
 
   -- a field that was read and is out of its range is refused with its number
   pub field_fails : {f : Field} {x next : ℕ} {r : Bool} → field_answer f ≡ field bytes at → f ≡ field.Value x next → r ≡ right x →
-      not r ≡ true → whole bytes at ≡ refused number
+      r ≡ false → whole bytes at ≡ refused number
   field_fails e d a t = rw (s.is, told field_answer e d, failed_by a t)
 
   -- a field that was read and is in its range leaves it to the rest
   pub field_passes : {f : Field} {x next : ℕ} {r : Bool} → field_answer f ≡ field bytes at → f ≡ field.Value x next → r ≡ right x →
-      not r ≡ false → whole bytes at ≡ more x bytes next
+      r ≡ true → whole bytes at ≡ more x bytes next
   field_passes e d a t = rw (s.is, told field_answer e d, passed_by a t)
 
 -- the readers that begin with a field, field by field

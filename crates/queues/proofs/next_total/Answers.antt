@@ -13,7 +13,7 @@ pub overflow_sub-slack : goal.overflow_sub-slack
 overflow_sub-slack c = (search_goes_on c.count-here.result c.loop-place.invariant c.count-here.ensures c.if-place-here.false).0
 
 pub loop-place-smaller : goal.loop-place-smaller
-loop-place-smaller c = omega (arith, sub-slack (goal.at.loop-place-smaller c).Else-place-here)
+loop-place-smaller c = omega (arith, (search_goes_on c.count-here.result c.loop-place.invariant c.count-here.ensures c.if-place-here.false).0)
 
 pub loop-place-preserved : goal.loop-place-preserved
 loop-place-preserved c = (search_goes_on c.count-here.result c.loop-place.invariant c.count-here.ensures c.if-place-here.false).1

@@ -1,0 +1,28 @@
+-- `jobs_refusal` meets its contract. The loop's invariant: every job passed has the number 0.
+use Prim.Native.Nat.{◌≤◌, ◌-◌}
+use mathlib.Core.Path.{◌≡◌, refl, sym, ap, ◌∙◌}
+use native.Mathlib.Omega.{arith}
+use Rattle.model.proofs.Tests.{in_order_more, in_order_first}
+use Rattle.model.specs.View.{view_of}
+use Rattle.model.specs.Refusal.{jobs_refusal, jobs_lines}
+use Rattle.model.specs.Tests.{in_order}
+use Rattle.sheets.proofs.refusal.jobs_refusal.Goals as goal
+
+pub loop-place-init : goal.loop-place-init
+unfolding jobs_lines in_order
+loop-place-init c = (omega arith, refl)
+
+pub returns-then-number-ne0 : goal.returns-then-number-ne0
+unfolding jobs_lines
+returns-then-number-ne0 c =
+    let sheet = c.args.sheet in
+    let l = c.loop-place in
+    sym
+    (in_order_first _ l.place sheet.job_count l.invariant.1 (sym c.refusal_at_job-number.ensures) c.if-number-ne0.true
+    c.loop-place-test.true)
+
+pub loop-place-preserved : goal.loop-place-preserved
+unfolding jobs_lines
+loop-place-preserved c =
+    let l = c.loop-place in
+    (omega arith, in_order_more _ l.place l.invariant.1 (sym c.refusal_at_job-number.ensures ∙ c.if-number-ne0.false))

@@ -1,0 +1,15 @@
+-- `jobs_refusal` meets its contract. The loop's invariant: every job passed has the number 0.
+use Prim.Native.Nat.{◌≤◌, ◌-◌}
+use mathlib.Core.Path.{◌≡◌, refl, sym, ap, ◌∙◌}
+use native.Mathlib.Omega.{arith}
+use Rattle.model.proofs.Tests.{in_order_more, in_order_first}
+use Rattle.model.specs.View.{view_of}
+use Rattle.model.specs.Refusal.{jobs_refusal, jobs_lines}
+use Rattle.model.specs.Tests.{in_order}
+use Rattle.sheets.proofs.refusal.jobs_refusal.Given as goal
+
+abbrev pub invariant-loop-place : goal.invariant-loop-place
+invariant-loop-place l = (l.place ≤ l.sheet.job_count) × (jobs_refusal (view_of l.sheet) l.place ≡ 0)
+
+abbrev pub decreases-loop-place : goal.decreases-loop-place
+decreases-loop-place l = l.sheet.job_count - l.place
