@@ -30,11 +30,9 @@ number-requires c = (c.requires.0, (left (goal.at.number-requires c).After-after
 
 pub overflow_cast-result : goal.overflow_cast-result
 overflow_cast-result c =
-    let left-known = (goal.at.overflow_cast-result c).After-after-left in
-    omega (arith, number_before_small left-known.before.before.before.pre.1 (omega arith) (left left-known).1 c.number.ensures)
+    omega (arith, number_before_small c.requires.1 (omega arith) (left (goal.at.overflow_cast-result c).After-after-left).1 c.number.ensures)
 
 pub returns : goal.returns
 returns c =
-    let left-known = (goal.at.returns c).After-after-left in
-    number_by left-known.before.before.leads-on.ensures left-known.before.if1.left
-    (c.number.ensures ∙ ap (number_of left-known.before.before.before.args.sizes.largest) (left left-known).0)
+    number_by c.leads_on.ensures c.if-not-leads_on.false
+    (c.number.ensures ∙ ap (number_of c.args.sizes.largest) (left (goal.at.returns c).After-after-left).0)

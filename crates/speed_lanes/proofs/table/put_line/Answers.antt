@@ -41,15 +41,11 @@ overflow_cast-first c =
 
 pub returns : goal.returns
 returns c =
-    let Lanes-put = (goal.at.returns c).After-put_lanes in
-    let head-put = Lanes-put.before.before.before.before in
-    let numbered = head-put.before.before.before.before in
-    let line = numbered.before in
-    let a = line.before.before.before.args in
+    let a = c.args in
     let M = a.sizes.largest in
     let D = a.sizes.bound in
     let s = view_of a.sheet in
-    let f = first line.before in
-    line_stored (numbered.number.ensures ∙ ap (number_of M) f.first_is) f.lowest_is
-    (head-put.before.slowest.ensures ∙ ap (slowest_in M D s) f.first_is) line.line_at_lem.ensures
-    (λ j h. ap (λ (w : Queue). lane_of M D w (speed_at s j)) f.first_is) (head-put.put-head.ensures _) Lanes-put.put-lanes.ensures
+    let f = first (goal.at.returns c).After-first_queue-queue in
+    line_stored (c.number-first.ensures ∙ ap (number_of M) f.first_is) f.lowest_is
+    (c.slowest.ensures ∙ ap (slowest_in M D s) f.first_is) c.line_at-at.ensures
+    (λ j h. ap (λ (w : Queue). lane_of M D w (speed_at s j)) f.first_is) (c.put_head.ensures _) c.put_lanes.ensures
