@@ -1,4 +1,4 @@
-// The planner as the benchmark's C program calls it (tests/bench): one function for `rt staticlib`, which nothing else needs.
+// The planner as the benchmark's C program calls it (tests/bench): a static library of one function, which nothing else needs.
 #![tactic(auto)]
 
 ghost use Rattle.bench_plan.specs.Planned.{IsPlanned};

@@ -11,6 +11,7 @@ use crate::request::{
 };
 use crate::show::show;
 use crate::words::one_more;
+use std::io;
 
 // The number of the word behind those that were taken.
 fn next_word(words: u64, count: u64) -> u64 {
@@ -21,91 +22,92 @@ fn next_word(words: u64, count: u64) -> u64 {
 }
 
 // What is wrong with a word.
-fn print_word_problem(request: Request) {
-    print_field(b"word ", next_word(request.words, request.count));
+fn print_word_problem(rt: &impl Print, request: Request) -> io::Result<()> {
+    print_field(rt, b"word ", next_word(request.words, request.count))?;
     if request.taken == MISSING {
-        print_words(b" is missing");
-        return;
+        return print_words(rt, b" is missing");
     }
     if request.taken == NO_NUMBER && request.most != HEX_BYTE {
-        print_field(b" is not a number from 0 to ", request.most);
-        return;
+        return print_field(rt, b" is not a number from 0 to ", request.most);
     }
     if request.taken == TOO_MANY {
-        print_words(b" is one too many");
-        return;
+        return print_words(rt, b" is one too many");
     }
-    print_words(b" is not a byte of two hex digits");
+    print_words(rt, b" is not a byte of two hex digits")
 }
 
 // What is wrong with a line.
-fn print_problem(request: Request) {
+fn print_problem(rt: &impl Print, request: Request) -> io::Result<()> {
     if request.taken == TOO_LONG {
-        print_words(b"the line is longer than 65536 bytes");
-        return;
+        return print_words(rt, b"the line is longer than 65536 bytes");
     }
     if request.taken == UNKNOWN {
-        print_words(b"no line begins so");
-        return;
+        return print_words(rt, b"no line begins so");
     }
     if request.taken == NOT_LENT {
-        print_field(b"only ", request.most);
-        print_words(b" places are lent");
-        return;
+        print_field(rt, b"only ", request.most)?;
+        return print_words(rt, b" places are lent");
     }
-    print_word_problem(request);
+    print_word_problem(rt, request)
 }
 
 // Answers a line that does not use memory, and counts it where it is not understood.
-fn settle(line: &[u8], request: Request, wrong: u64) -> u64 {
+fn settle(rt: &impl Print, line: &[u8], request: Request, wrong: u64) -> io::Result<u64> {
     if request.kind == NOTHING {
-        print_words(b"not understood: ");
-        print_problem(request);
-        print_end();
-        return one_more(wrong);
+        print_words(rt, b"not understood: ")?;
+        print_problem(rt, request)?;
+        print_end(rt)?;
+        return Ok(one_more(wrong));
     }
     if request.kind == COMMENT {
-        print_words(line);
+        print_words(rt, line)?;
     }
-    print_end();
-    wrong
+    print_end(rt)?;
+    Ok(wrong)
 }
 
 // Makes a line's call with the lent part of each buffer.
-fn lend(numbers: &mut [u64; 816947], plan: &mut [u8], bytes: &mut [u8], request: Request) {
+fn lend(
+    rt: &impl Print,
+    numbers: &mut [u64; 816947],
+    plan: &mut [u8],
+    bytes: &mut [u8],
+    request: Request,
+) -> io::Result<()> {
     let plan_count = smaller(numbers[PLAN_LENT] as usize, plan.len());
     let byte_count = smaller(numbers[BYTES_LENT] as usize, bytes.len());
     make(
+        rt,
         numbers,
         &mut plan[..plan_count],
         &mut bytes[..byte_count],
         request,
-    );
+    )
 }
 
 // Answers a line; `lent` is how many places of its buffer are lent.
 fn answer(
+    rt: &impl Print,
     numbers: &mut [u64; 816947],
     plan: &mut [u8; 1000000],
     bytes: &mut [u8; 65536],
     line: &[u8],
     request: Request,
     lent: u64,
-) {
+) -> io::Result<()> {
     if request.kind <= PUT_ALL_BYTES {
         put(numbers, plan, bytes, line, request, lent);
-        return;
+        return Ok(());
     }
     if request.kind < CALL_READ {
-        show(numbers, plan, bytes, request);
-        return;
+        return show(rt, numbers, plan, bytes, request);
     }
     if request.kind <= CALL_ADVANCE {
-        lend(numbers, plan, bytes, request);
-        return;
+        return lend(rt, numbers, plan, bytes, request);
     }
-    let wrong = settle(line, request, numbers[WRONG]);
+    let wrong = settle(rt, line, request, numbers[WRONG])?;
     numbers[WRONG] = wrong;
+    Ok(())
 }
 
 // How many places of the buffer of a kind are lent.
@@ -122,16 +124,17 @@ fn lent_of(numbers: &[u64; 816947], kind: usize) -> u64 {
 
 // Answers a line of `length` bytes, of which `room` holds as many as fit.
 pub fn answer_line(
+    rt: &impl Print,
     numbers: &mut [u64; 816947],
     plan: &mut [u8; 1000000],
     bytes: &mut [u8; 65536],
     room: &[u8],
     length: usize,
-) {
+) -> io::Result<()> {
     let held = smaller(length, room.len());
     let line = &room[..held];
     let asked = request_of(line);
     let lent = lent_of(numbers, asked.kind);
     let request = checked(asked, length == held, lent);
-    answer(numbers, plan, bytes, line, request, lent);
+    answer(rt, numbers, plan, bytes, line, request, lent)
 }

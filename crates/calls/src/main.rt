@@ -14,47 +14,50 @@ mod show;
 mod words;
 
 use input::next_line;
-use libc::STDERR_FILENO;
 use line::answer_line;
 use memory::WRONG;
+use std::io;
+use std::io::Read;
 
-// Answers every line. The loop counts its turns down, from a number that no run uses up.
+// Answers every line. The loop counts its turns, up to a number that no run reaches.
 fn answer_all(
+    rt: &(impl Input + Print),
     numbers: &mut [u64; 816947],
     plan: &mut [u8; 1000000],
     bytes: &mut [u8; 65536],
     room: &mut [u8; 65536],
-) {
-    let mut turns = 18446744073709551615u64;
-    while 0 < turns {
-        let line = next_line(room);
+) -> io::Result<()> {
+    let mut input = rt.reader().bytes();
+    for _ in 0..u64::MAX {
+        let line = next_line(&mut input, room)?;
         if !line.present {
-            return;
+            return Ok(());
         }
-        answer_line(numbers, plan, bytes, room, line.length);
-        turns -= 1;
+        answer_line(rt, numbers, plan, bytes, room, line.length)?;
     }
+    Ok(())
 }
 
 // Says on standard error how many lines were not understood: `./run` then ends with status 1.
-fn tell(wrong: u64) {
+fn tell(rt: &impl Eprint, wrong: u64) -> io::Result<()> {
     if wrong == 0 {
-        return;
+        return Ok(());
     }
-    io::write_all(STDERR_FILENO, b"calls: ");
-    io::print_decimal(STDERR_FILENO, wrong);
     if wrong == 1 {
-        io::write_all(STDERR_FILENO, b" line was not understood\n");
-        return;
+        return eprintln!(rt; "calls: 1 line was not understood");
     }
-    io::write_all(STDERR_FILENO, b" lines were not understood\n");
+    eprintln!(rt; "calls: {wrong} lines were not understood")
 }
 
-fn main() {
-    let mut numbers = [0u64; 816947];
-    let mut plan = [0u8; 1000000];
+// The memory is too large for the stack, and stands on the heap.
+fn main(rt: HostRuntime) -> io::Result<()> {
+    let alloc = rt.alloc();
+    let mut numbers = vec![in alloc; 0u64; 816947]?;
+    let mut plan = vec![in alloc; 0u8; 1000000]?;
     let mut bytes = [0u8; 65536];
     let mut room = [0u8; 65536];
-    answer_all(&mut numbers, &mut plan, &mut bytes, &mut room);
-    tell(numbers[WRONG]);
+    let numbers = numbers.as_mut_slice().as_mut_array::<816947>().unwrap();
+    let plan = plan.as_mut_slice().as_mut_array::<1000000>().unwrap();
+    answer_all(&rt, numbers, plan, &mut bytes, &mut room)?;
+    tell(&rt, numbers[WRONG])
 }

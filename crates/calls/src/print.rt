@@ -3,7 +3,7 @@ ghost use Rattle.std.specs.Prelude.{◌<◌, ◌≤◌};
 
 use crate::memory::{BOUND, ENERGY, HORIZON, JOB_COUNT, JOBS, QUEUE, SLOT, SPEED_COUNT, SPEEDS};
 use crate::words::one_more;
-use libc::STDOUT_FILENO;
+use std::io;
 
 // What a walk does with each number: it only adds it to the checksum; it also prints a space and the number, in decimal or in hex; or it
 // prints text, and answers the last byte instead of the checksum.
@@ -16,38 +16,53 @@ pub const IN_HEX: u32 = 2;
 pub const AS_TEXT: u32 = 3;
 
 // Words as they are.
-pub fn print_words(words: &[u8]) {
-    io::write_all(STDOUT_FILENO, words);
+pub fn print_words(rt: &impl Print, words: &[u8]) -> io::Result<()> {
+    rt.write_all(words)
 }
 
 // Words, and a number behind them.
-pub fn print_field(words: &[u8], number: u64) {
-    print_words(words);
-    io::print_decimal(STDOUT_FILENO, number);
+pub fn print_field(rt: &impl Print, words: &[u8], number: u64) -> io::Result<()> {
+    print_words(rt, words)?;
+    rt.print(number)
 }
 
 // The end of an answer.
-pub fn print_end() {
-    print_words(b"\n");
+pub fn print_end(rt: &impl Print) -> io::Result<()> {
+    print_words(rt, b"\n")
 }
 
 // A byte as text: a line feed or a printable character as it is, any other byte as a question mark.
-fn print_letter(byte: u8) {
+fn print_letter(rt: &impl Print, byte: u8) -> io::Result<()> {
     if byte == 10 || 31 < byte && byte < 127 {
-        print_words(&[byte]);
-        return;
+        return print_words(rt, &[byte]);
     }
-    print_words(b"?");
+    print_words(rt, b"?")
 }
 
-// The checksum with one number more, which is printed where the form says so.
-fn with_number(sum: u64, number: u64, form: u32) -> u64
+// What the form asks to be printed of a number.
+fn print_number(rt: &impl Print, number: u64, form: u32) -> io::Result<()> {
+    if form == IN_DECIMAL {
+        return print_field(rt, b" ", number);
+    }
+    Ok(())
+}
+
+// The same of a byte.
+fn print_byte(rt: &impl Print, byte: u8, form: u32) -> io::Result<()> {
+    if form == AS_TEXT {
+        return print_letter(rt, byte);
+    }
+    if form == IN_HEX {
+        return print!(rt; " {byte:02x}");
+    }
+    print_number(rt, byte as u64, form)
+}
+
+// The checksum with one number more.
+fn with_number(sum: u64, number: u64) -> u64
     requires { sum < 4294967291 }
     ensures { result < 4294967291 }
 {
-    if form == IN_DECIMAL {
-        print_field(b" ", number);
-    }
     (sum * 1000003 + number % 4294967291) % 4294967291
 }
 
@@ -57,46 +72,55 @@ fn with_byte(sum: u64, byte: u8, form: u32) -> u64
     ensures { result < 4294967291 }
 {
     if form == AS_TEXT {
-        print_letter(byte);
         return byte as u64;
     }
-    if form == IN_HEX {
-        print_words(b" ");
-        io::print_hex(STDOUT_FILENO, byte as u64, 2);
-    }
-    with_number(sum, byte as u64, form)
+    with_number(sum, byte as u64)
 }
 
 // Walks over so many numbers of memory from a place on.
-pub fn walk_numbers(numbers: &[u64; 816947], from: u64, count: u64, form: u32) -> u64 {
+pub fn walk_numbers(
+    rt: &impl Print,
+    numbers: &[u64; 816947],
+    from: u64,
+    count: u64,
+    form: u32,
+) -> io::Result<u64> {
     let mut sum = 0;
     let mut at = from as usize;
     let mut left = count;
     while at < 816947 {
         if left == 0 {
-            return sum;
+            return Ok(sum);
         }
-        sum = with_number(sum, numbers[at], form);
+        print_number(rt, numbers[at], form)?;
+        sum = with_number(sum, numbers[at]);
         left -= 1;
         at += 1;
     }
-    sum
+    Ok(sum)
 }
 
 // The same over bytes.
-pub fn walk_bytes(bytes: &[u8], from: u64, count: u64, form: u32) -> u64 {
+pub fn walk_bytes(
+    rt: &impl Print,
+    bytes: &[u8],
+    from: u64,
+    count: u64,
+    form: u32,
+) -> io::Result<u64> {
     let mut sum = 0;
     let mut at = from as usize;
     let mut left = count;
     while at < bytes.len() {
         if left == 0 {
-            return sum;
+            return Ok(sum);
         }
+        print_byte(rt, bytes[at], form)?;
         sum = with_byte(sum, bytes[at], form);
         left -= 1;
         at += 1;
     }
-    sum
+    Ok(sum)
 }
 
 // How many numbers from place `from` up to place `to` are not 0, added to `before`.
@@ -127,24 +151,25 @@ fn held(count: u64, places: u64) -> u64
 }
 
 // Prints a sheet's fields in the order of its bytes, and how many other numbers are not 0, and ends the line.
-pub fn print_sheet(numbers: &[u64; 816947]) {
+pub fn print_sheet(rt: &impl Print, numbers: &[u64; 816947]) -> io::Result<()> {
     let speeds = 2 * held(numbers[SPEED_COUNT], 9);
     let jobs = 3 * held(numbers[JOB_COUNT], 32);
-    print_words(b"sheet");
-    walk_numbers(numbers, BOUND as u64, 2 + speeds, IN_DECIMAL);
-    walk_numbers(numbers, HORIZON as u64, 2 + jobs, IN_DECIMAL);
+    print_words(rt, b"sheet")?;
+    walk_numbers(rt, numbers, BOUND as u64, 2 + speeds, IN_DECIMAL)?;
+    walk_numbers(rt, numbers, HORIZON as u64, 2 + jobs, IN_DECIMAL)?;
     let others = count_others(numbers, SPEEDS + speeds as usize, HORIZON, 0);
     print_field(
+        rt,
         b", others ",
         count_others(numbers, JOBS + jobs as usize, QUEUE, others),
-    );
-    print_end();
+    )?;
+    print_end(rt)
 }
 
 // Prints the state; the line goes on.
-pub fn print_state(numbers: &[u64; 816947]) {
-    print_words(b", queue");
-    walk_numbers(numbers, QUEUE as u64, 6, IN_DECIMAL);
-    print_field(b", slot ", numbers[SLOT]);
-    print_field(b", energy ", numbers[ENERGY]);
+pub fn print_state(rt: &impl Print, numbers: &[u64; 816947]) -> io::Result<()> {
+    print_words(rt, b", queue")?;
+    walk_numbers(rt, numbers, QUEUE as u64, 6, IN_DECIMAL)?;
+    print_field(rt, b", slot ", numbers[SLOT])?;
+    print_field(rt, b", energy ", numbers[ENERGY])
 }

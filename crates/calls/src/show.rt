@@ -8,24 +8,26 @@ use crate::print::{
     print_words, walk_bytes, walk_numbers,
 };
 use crate::request::{Request, first_place, place_count};
+use std::io;
 
 // What `show` begins with.
-fn print_name(kind: usize) {
+fn print_name(rt: &impl Print, kind: usize) -> io::Result<()> {
     if kind == SHOW_VALUES {
-        print_words(b"values");
+        return print_words(rt, b"values");
     }
     if kind == SHOW_SPEEDS {
-        print_words(b"speeds");
+        return print_words(rt, b"speeds");
     }
     if kind == SHOW_JOBS {
-        print_words(b"jobs");
+        return print_words(rt, b"jobs");
     }
     if kind == SHOW_PLAN {
-        print_words(b"plan");
+        return print_words(rt, b"plan");
     }
     if kind == SHOW_BYTES {
-        print_words(b"bytes");
+        return print_words(rt, b"bytes");
     }
+    Ok(())
 }
 
 // How the places are walked over.
@@ -43,48 +45,55 @@ fn form_of(kind: usize) -> u32 {
 }
 
 // The end of the answer to a line that walked over so many places: a text has a line feed unless it ends in one, or is empty.
-fn print_rest(form: u32, walked: u64, count: u64) {
+fn print_rest(rt: &impl Print, form: u32, walked: u64, count: u64) -> io::Result<()> {
     if form == SILENT {
-        print_field(b"sum ", walked);
+        print_field(rt, b"sum ", walked)?;
     }
     if form != AS_TEXT || count != 0 && walked != 10 {
-        print_end();
+        print_end(rt)?;
     }
+    Ok(())
 }
 
 // `show` and `sum` of places.
 fn show_places(
+    rt: &impl Print,
     numbers: &[u64; 816947],
     plan: &[u8; 1000000],
     bytes: &[u8; 65536],
     request: Request,
-) {
+) -> io::Result<()> {
     let form = form_of(request.kind);
     let from = first_place(request);
     let count = place_count(request, 0);
-    print_name(request.kind);
+    print_name(rt, request.kind)?;
     if request.kind <= SHOW_JOBS {
-        print_rest(form, walk_numbers(numbers, from, count, form), count);
-        return;
+        let walked = walk_numbers(rt, numbers, from, count, form)?;
+        return print_rest(rt, form, walked, count);
     }
     if request.kind <= SUM_PLAN {
-        print_rest(form, walk_bytes(plan, from, count, form), count);
-        return;
+        let walked = walk_bytes(rt, plan, from, count, form)?;
+        return print_rest(rt, form, walked, count);
     }
-    print_rest(form, walk_bytes(bytes, from, count, form), count);
+    let walked = walk_bytes(rt, bytes, from, count, form)?;
+    print_rest(rt, form, walked, count)
 }
 
 // Answers a line that asks.
-pub fn show(numbers: &[u64; 816947], plan: &[u8; 1000000], bytes: &[u8; 65536], request: Request) {
+pub fn show(
+    rt: &impl Print,
+    numbers: &[u64; 816947],
+    plan: &[u8; 1000000],
+    bytes: &[u8; 65536],
+    request: Request,
+) -> io::Result<()> {
     if request.kind == SHOW_SHEET {
-        print_sheet(numbers);
-        return;
+        return print_sheet(rt, numbers);
     }
     if request.kind == SHOW_STATE {
-        print_words(b"state");
-        print_state(numbers);
-        print_end();
-        return;
+        print_words(rt, b"state")?;
+        print_state(rt, numbers)?;
+        return print_end(rt);
     }
-    show_places(numbers, plan, bytes, request);
+    show_places(rt, numbers, plan, bytes, request)
 }

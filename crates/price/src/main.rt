@@ -6,15 +6,16 @@ ghost use Rattle.std.specs.Prelude.{◌+◌, ◌≤◌, length};
 
 use buffers::lay;
 use decimals::put_with_text;
-use libc::{STDIN_FILENO, STDOUT_FILENO};
 use model::Sheet;
 use pricing::PriceAnswer;
+use std::io;
+use std::io::Read;
 
 // Writes the one line of a refusal, all at once.
-fn print_refused(number: u32) {
+fn print_refused(rt: &impl Print, number: u32) -> io::Result<()> {
     let mut line = [0u8; 29];
     let length = decimals::put_refused(&mut line, number);
-    io::write_all(STDOUT_FILENO, &line[..length]);
+    rt.write_all(&line[..length])
 }
 
 // Where the first line of a text ends: the place of its line feed.
@@ -44,7 +45,7 @@ fn put_price(buffer: &mut [u8], at: usize, priced: PriceAnswer) -> usize
 }
 
 // Writes a listing, with what the rule costs at the end of its first line, all at once.
-fn print_priced(listed: &[u8], priced: PriceAnswer)
+fn print_priced(rt: &impl Print, listed: &[u8], priced: PriceAnswer) -> io::Result<()>
     requires { length listed.now ≤ 40000 }
 {
     let mut text = [0u8; 40026];
@@ -52,54 +53,55 @@ fn print_priced(listed: &[u8], priced: PriceAnswer)
     let at_price = lay(&mut text, 0, &listed[..end]);
     let at_rest = put_price(&mut text, at_price, priced);
     let length = lay(&mut text, at_rest, &listed[end..]);
-    io::write_all(STDOUT_FILENO, &text[..length]);
+    rt.write_all(&text[..length])
 }
 
 // Lists the rule's plan. 40,000 bytes are enough, as they are for the planning program.
-fn print_listing(sheet: Sheet, least: u64, plan: &[u8], priced: PriceAnswer) {
+fn print_listing(
+    rt: &impl Print,
+    sheet: Sheet,
+    least: u64,
+    plan: &[u8],
+    priced: PriceAnswer,
+) -> io::Result<()> {
     let mut text = [0u8; 40000];
     let listed = listing::list(sheet, least, plan, &mut text);
     if listed.number != 0 {
-        print_refused(listed.number);
-        return;
+        return print_refused(rt, listed.number);
     }
-    print_priced(&text[..listed.length], priced);
+    print_priced(rt, &text[..listed.length], priced)
 }
 
 // Prices the rule's plan, over the planner's values, and lists it. Pricing tests what the planner has tested, with as much memory: so its
 // number is 0, or 12 where the rule may fail.
-fn print_rule(sheet: Sheet, least: u64, values: &mut [u64]) {
+fn print_rule(rt: &impl Print, sheet: Sheet, least: u64, values: &mut [u64]) -> io::Result<()> {
     let mut plan = [0u8; 60000];
     let ruled = old_rule::rule(sheet, &mut plan);
     if ruled.number != 0 {
-        print_refused(ruled.number);
-        return;
+        return print_refused(rt, ruled.number);
     }
     let priced = pricing::price(sheet, values, &plan);
-    print_listing(sheet, least, &plan, priced);
+    print_listing(rt, sheet, least, &plan, priced)
 }
 
 // Plans a sheet, for its least energy, and prices the rule on it.
-fn print_price(sheet: Sheet) {
+fn print_price(rt: &impl Print, sheet: Sheet) -> io::Result<()> {
     let mut values = [0u64; 8000];
     let mut plan = [0u8; 60000];
     let answer = planner::plan(sheet, &mut values, &mut plan);
     if answer.number != 0 {
-        print_refused(answer.number);
-        return;
+        return print_refused(rt, answer.number);
     }
-    print_rule(sheet, answer.least, &mut values);
+    print_rule(rt, sheet, answer.least, &mut values)
 }
 
 // More than 512 bytes are never a sheet: the first 512 are read, and refused.
-fn main() {
-    let mut bytes = [0u8; 512];
-    let length = io::read_full(STDIN_FILENO, &mut bytes);
-    let read = reader::read(&bytes[..length]);
+fn main(rt: HostRuntime) -> io::Result<()> {
+    let mut bytes = Vec::new(rt.alloc());
+    rt.reader().take(512).read_to_end(&mut bytes)?;
+    let read = reader::read(bytes.as_slice());
     if read.number != 0 {
-        print_refused(read.number);
-        return;
+        return print_refused(&rt, read.number);
     }
-    let sheet = read.sheet;
-    print_price(sheet);
+    print_price(&rt, read.sheet)
 }

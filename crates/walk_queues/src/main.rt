@@ -6,6 +6,8 @@ ghost use Rattle.std.specs.Prelude.{◌+◌, ◌≤◌, ◌<◌};
 ghost use Rattle.counts.specs.Counts.{HoldsCounts};
 ghost use Rattle.queues.specs.Order.{Ranges, Numbered};
 
+use std::io;
+
 // How many bearable queues were met, and how many of them stood at their numbers.
 #[derive(Clone, Copy)]
 struct Walked {
@@ -89,27 +91,20 @@ fn walk(counts: &[u32; 2352], largest: u32, bound: usize) -> Walked
 }
 
 // A line for one size.
-fn print_walk(counts: &[u32; 2352], largest: u32, bound: usize)
+fn print_walk(rt: &impl Print, counts: &[u32; 2352], largest: u32, bound: usize) -> io::Result<()>
     requires { HoldsCounts counts.now × Ranges largest bound }
 {
     let walked = walk(counts, largest, bound);
-    io::write_all(1, b"M ");
-    io::print_decimal(1, largest as u64);
-    io::write_all(1, b" D ");
-    io::print_decimal(1, bound as u64);
-    io::write_all(1, b": ");
-    io::print_decimal(1, walked.queues);
-    io::write_all(1, b" queues, ");
-    io::print_decimal(1, walked.right);
-    io::write_all(1, b" at their numbers, N ");
-    io::print_decimal(1, queues::queue_count(counts, largest, bound) as u64);
-    io::write_all(1, b"\n");
+    let queues = walked.queues;
+    let right = walked.right;
+    let count = queues::queue_count(counts, largest, bound);
+    println!(rt; "M {largest} D {bound}: {queues} queues, {right} at their numbers, N {count}")
 }
 
-fn main() {
+fn main(rt: HostRuntime) -> io::Result<()> {
     let counts = counts::table();
-    print_walk(&counts, 2, 3);
-    print_walk(&counts, 8, 2);
-    print_walk(&counts, 3, 5);
-    print_walk(&counts, 2, 6);
+    print_walk(&rt, &counts, 2, 3)?;
+    print_walk(&rt, &counts, 8, 2)?;
+    print_walk(&rt, &counts, 3, 5)?;
+    print_walk(&rt, &counts, 2, 6)
 }
