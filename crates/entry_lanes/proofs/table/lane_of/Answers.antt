@@ -1,0 +1,17 @@
+-- `lane_of` meets its contract: 0 where the queue is not bearable, else its number.
+use native.Mathlib.Omega.{arith}
+use Rattle.queues.specs.Order.{Numbered}
+use Rattle.rows.proofs.Answers.{holds_by}
+use Rattle.rows.proofs.Room.{number_small}
+use Rattle.entry_lanes.proofs.table.lane_of.Goals as goal
+use Rattle.entry_lanes.proofs.table.lane_of.Goals.{Else-not-bearable}
+
+-- a queue that is bearable has a number
+numbered : (c : Else-not-bearable) →
+    let a = c.args in
+    Numbered a.sizes.largest a.sizes.bound a.queue
+numbered c =
+    record { ranges = c.requires.1.ranges; is_bearable = holds_by c.bearable.ensures c.if-not-bearable.false }
+
+pub overflow_cast-result : goal.overflow_cast-result
+overflow_cast-result c = omega (arith, number_small c.requires.1 (omega arith) (numbered (goal.at.overflow_cast-result c).Else-not-bearable) c.number.ensures)
