@@ -30,7 +30,7 @@ line_at-at-requires c = line_asked c.requires.0 c.requires.1.block_low
 
 pub store-requires : goal.store-requires
 store-requires c =
-    fewer_fit width (omega (arith, (number (goal.at.store-requires c).After-shared_slice_known-3-1).1)) c.requires.2
+    fewer_fit width (omega (arith, (number (goal.at.store-requires c).After-line_at-at).1)) c.requires.2
 
 pub overflow_cast-plan : goal.overflow_cast-plan
 overflow_cast-plan c =
@@ -38,9 +38,9 @@ overflow_cast-plan c =
 
 pub bounds-plan-row : goal.bounds-plan-row
 bounds-plan-row c =
-    omega (arith, (number (goal.at.bounds-plan-row c).After-shared_slice_known-3-1).1, c.requires.3)
+    omega (arith, (number (goal.at.bounds-plan-row c).After-line_at-at).1, c.requires.3)
 
 pub returns : goal.returns
 returns c =
-    left_stored (number (goal.at.returns c).After-shared_slice_known-3-1).0 c.choose-best.ensures c.store.ensures
-    (omega (arith, (number (goal.at.returns c).After-shared_slice_known-3-1).1, c.requires.3))
+    left_stored (number (goal.at.returns c).After-line_at-at).0 c.choose-best.ensures c.store.ensures
+    (omega (arith, (number (goal.at.returns c).After-line_at-at).1, c.requires.3))
