@@ -2,7 +2,6 @@
 use Prim.Native.Nat.{ℕ, zero, suc}
 use mathlib.Core.Path.{◌≡◌, refl, sym, ◌∙◌, subst}
 use mathlib.Core.List.{List}
-use borrow.Author.Rules.{rules}
 use Rattle.model.specs.View.{view_of}
 use Rattle.model.specs.Plan.{PlanAnswer, Leaves}
 use Rattle.model.specs.Width.{narrow}
@@ -10,8 +9,7 @@ use Rattle.model.specs.Reading.{read}
 use Rattle.model.specs.declared.Sheet.{Sheet}
 use Rattle.reader.specs.Calls.{IsRead}
 use Rattle.bench_plan.specs.Planned.{LeavesRead, IsPlanned}
-use Rattle.bench_plan.proofs.bench_plan.Statement.{statement}
-use Rattle.bench_plan.proofs.bench_plan.Tie as tie
+use Rattle.bench_plan.proofs.bench_plan.Goals as goal
 
 -- the bytes are refused
 refused-read : (values plan : List ℕ) {bytes : List ℕ} {number : ℕ} {sheet : Sheet} → IsRead bytes number sheet → (number ≡ 0 → ⊥) →
@@ -43,26 +41,8 @@ planned-read {bytes} {values₀} {plan₀} {values} {plan} answer is none left =
           (subst (λ (sheet : Sheet). Leaves narrow (view_of sheet) values₀ plan₀ values plan answer) is.sheet_is left);
     }
 
-read-requires : tie.Need-read-requires
-read-requires c κs = search rules
+pub returns-then-read-ne0 : goal.returns-then-read-ne0
+returns-then-read-ne0 c = refused-read _ _ c.read-read.ensures c.if-read-ne0.true
 
-returns : tie.Need-returns
-returns c = refused-read _ _ c.before.before.read.ensures c.if1.true
-
-plan-requires : tie.Need-plan-requires
-plan-requires c κs = search rules
-
-same_length : tie.Need-same-length
-same_length c = search rules
-
-same-length-2 : tie.Need-same-length-2
-same-length-2 c = search rules
-
-returns-2 : tie.Need-returns-2
-returns-2 c =
-    let tested = c.before.before.before.before.before.before.before in
-    planned-read _ tested.before.before.read.ensures tested.if1.false c.before.before.before.before.plan.ensures
-
-pub bench-plan-spec : {M : Type 1} → statement M
-bench-plan-spec =
-    tie.close (tie.spec read-requires returns plan-requires same_length same-length-2 returns-2)
+pub returns : goal.returns
+returns c = planned-read _ c.read-read.ensures c.if-read-ne0.false c.plan-answer.ensures
