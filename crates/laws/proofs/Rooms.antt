@@ -52,48 +52,48 @@ module _ (s : View) where
 
   module _ (width : Width) where
     -- it refuses a sheet that is refused, with the sheet's number
-    pub plan_refused : (valuesRoom planRoom : ℕ) {number : ℕ} → number ≡ sheet_refusal width.limit s → (number ≡ 0 → ⊥) →
-        number ≡ plan_refusal width s valuesRoom planRoom
+    pub plan_refused : (values_room plan_room : ℕ) {number : ℕ} → number ≡ sheet_refusal width.limit s → (number ≡ 0 → ⊥) →
+        number ≡ plan_refusal width s values_room plan_room
     unfolding plan_lines
-    plan_refused valuesRoom planRoom e some = sheet_refused width.limit _ e some
+    plan_refused values_room plan_room e some = sheet_refused width.limit _ e some
 
     -- and 11 where the values are too short
-    pub plan_short_values : (valuesRoom planRoom : ℕ) → sheet_refusal width.limit s ≡ 0 → valuesRoom < value_places width s →
-        11 ≡ plan_refusal width s valuesRoom planRoom
+    pub plan_short_values : (values_room plan_room : ℕ) → sheet_refusal width.limit s ≡ 0 → values_room < value_places width s →
+        11 ≡ plan_refusal width s values_room plan_room
     unfolding plan_lines
-    plan_short_values valuesRoom planRoom e h =
+    plan_short_values values_room plan_room e h =
         sym
         (then_on (sheet_refusal width.limit s) _ e ∙
-        check_false _ 11 (ap (λ (b : Bool). b && leb (plan_needed s) planRoom) (lt-leb (value_places width s) valuesRoom h)))
+        check_false _ 11 (ap (λ (b : Bool). b && leb (plan_needed s) plan_room) (lt-leb (value_places width s) values_room h)))
 
     -- or the plan is
-    pub plan_short_plan : (valuesRoom planRoom : ℕ) → sheet_refusal width.limit s ≡ 0 → planRoom < plan_needed s →
-        11 ≡ plan_refusal width s valuesRoom planRoom
+    pub plan_short_plan : (values_room plan_room : ℕ) → sheet_refusal width.limit s ≡ 0 → plan_room < plan_needed s →
+        11 ≡ plan_refusal width s values_room plan_room
     unfolding plan_lines
-    plan_short_plan valuesRoom planRoom e h =
+    plan_short_plan values_room plan_room e h =
         sym
         (then_on (sheet_refusal width.limit s) _ e ∙
-        check_false _ 11 (and_fails_right (leb (value_places width s) valuesRoom) _ (lt-leb (plan_needed s) planRoom h)))
+        check_false _ 11 (and_fails_right (leb (value_places width s) values_room) _ (lt-leb (plan_needed s) plan_room h)))
 
     -- and 0 otherwise
-    pub plan_fits : (valuesRoom planRoom : ℕ) → sheet_refusal width.limit s ≡ 0 → value_places width s ≤ valuesRoom →
-        plan_needed s ≤ planRoom → 0 ≡ plan_refusal width s valuesRoom planRoom
+    pub plan_fits : (values_room plan_room : ℕ) → sheet_refusal width.limit s ≡ 0 → value_places width s ≤ values_room →
+        plan_needed s ≤ plan_room → 0 ≡ plan_refusal width s values_room plan_room
     unfolding plan_lines
-    plan_fits valuesRoom planRoom e h k =
-        let values = ap (λ (b : Bool). b && leb (plan_needed s) planRoom) (le-leb (value_places width s) valuesRoom h) in
-        sym (then_on (sheet_refusal width.limit s) _ e ∙ check_true _ 11 (values ∙ le-leb (plan_needed s) planRoom k))
+    plan_fits values_room plan_room e h k =
+        let values = ap (λ (b : Bool). b && leb (plan_needed s) plan_room) (le-leb (value_places width s) values_room h) in
+        sym (then_on (sheet_refusal width.limit s) _ e ∙ check_true _ 11 (values ∙ le-leb (plan_needed s) plan_room k))
 
     -- what a plan that is not refused has: an accepted sheet, and room for the values and the plan
-    pub plan_accepted : (valuesRoom planRoom : ℕ) → plan_refusal width s valuesRoom planRoom ≡ 0 →
-        (sheet_refusal width.limit s ≡ 0) × (value_places width s ≤ valuesRoom) × (plan_needed s ≤ planRoom)
+    pub plan_accepted : (values_room plan_room : ℕ) → plan_refusal width s values_room plan_room ≡ 0 →
+        (sheet_refusal width.limit s ≡ 0) × (value_places width s ≤ values_room) × (plan_needed s ≤ plan_room)
     unfolding plan_lines
-    plan_accepted valuesRoom planRoom e =
-        let values = leb (value_places width s) valuesRoom in
-        let plan = leb (plan_needed s) planRoom in
+    plan_accepted values_room plan_room e =
+        let values = leb (value_places width s) values_room in
+        let plan = leb (plan_needed s) plan_room in
         let both = check_zero (values && plan) 10 (then_right (sheet_refusal width.limit s) _ e) in (
           then_left (sheet_refusal width.limit s) _ e,
-          leb→le (value_places width s) valuesRoom (and_left values plan both),
-          leb→le (plan_needed s) planRoom (and_right values plan both),
+          leb→le (value_places width s) values_room (and_left values plan both),
+          leb→le (plan_needed s) plan_room (and_right values plan both),
         )
 
   -- the row

@@ -116,8 +116,8 @@ stand_read bytes s e w stands =
     let (horizon, e3) = holds_then (horizon_right s.horizon) 6 _ (then_right (speeds_refusal s s.speed_count) _ e2) in
     let (job_count, e4) = holds_then (job_count_right s.job_count) 7 _ e3 in
     let (a, D, rest) = stands in
-    let speedTable = table_fields zero_speed speed_fields s.speed_count s.speeds in
-    let (b, speeds, (c, T, jobs)) = stand_split bytes speedTable _ a (length bytes) rest in
+    let speed_table = table_fields zero_speed speed_fields s.speed_count s.speeds in
+    let (b, speeds, (c, T, jobs)) = stand_split bytes speed_table _ a (length bytes) rest in
     rw (
       D,
       bound,
@@ -168,11 +168,11 @@ written_read bytes are s next e =
     let (end, e5) = test_gave (leb (length bytes) d) 3 bytes d _ e4 in
     let made = view_with D speeds T jobs in
     let (k, e6) = refuse_gave (limits_refusal value_limit (N made) made) bytes d _ e5 in
-    let (speedsStand, _, _) = table_gave speed_entries speed_count_right 5 bytes a speeds b m in
-    let (jobsStand, _, _) = table_gave (job_entries D) job_count_right 8 bytes c jobs d n in
+    let (speeds_stand, _, _) = table_gave speed_entries speed_count_right 5 bytes a speeds b m in
+    let (jobs_stand, _, _) = table_gave (job_entries D) job_count_right 8 bytes c jobs d n in
     let rest =
     stand_join bytes (table_fields zero_speed speed_fields (length speeds) speeds) (T ∷ table_fields zero_job job_fields (length jobs) jobs)
-    a b d speedsStand (c, g, jobsStand) in
+    a b d speeds_stand (c, g, jobs_stand) in
     subst (BytesOf bytes) (value_same {m = d} e6).0 (record {
       bytes_are = stand_written bytes are made d (leb-true (length bytes) d end) (a, f, rest);
       is_accepted = then_both (fields_refusal made) (limits_refusal value_limit (N made) made) (fields_read bytes D T speeds jobs a b c d t m u n) k;

@@ -17,7 +17,7 @@ use Rattle.process.specs.Sums.{sum, same}
 use Rattle.process.proofs.Sums.{same_refl, same_true}
 use Rattle.model.specs.Tests.{listed}
 use Rattle.model.specs.Queue.{Queue, total, totals, empty_queue, positions, queue_in, places_of, bearable_at, bearable, unused_at, unused_zero, bearable_in, run, arrive, one_slot, before, each_total, continuations, bearable_queues, queue_count, place_in, number_of, continuation_count}
-use Rattle.model.proofs.Tests.{check_passes, and_left, and_right, and_both, everywhere_at, everywhere_all, length-listed, getD-listed}
+use Rattle.model.proofs.Tests.{check_passes, and_left, and_right, and_both, everywhere_at, everywhere_all, length-listed, get_or-listed}
 
 -- a queue by its totals
 
@@ -28,7 +28,7 @@ length_totals D f = length-listed (λ i. f (suc i)) D
 -- the total at u is the one that it was made with
 pub total_totals : (D : ℕ) (f : ℕ → ℕ) (u : ℕ) → 1 ≤ u → u ≤ D → total (totals D f) u ≡ f u
 total_totals D f zero h k = absurd (not-suc-le-zero h)
-total_totals D f (suc i) h k = getD-listed (λ j. f (suc j)) D i 0 k
+total_totals D f (suc i) h k = get_or-listed (λ j. f (suc j)) D i 0 k
 
 -- past the last position a total is 0
 pub total_past : (w : Queue) (u : ℕ) → length w < u → total w u ≡ 0

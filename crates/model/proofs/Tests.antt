@@ -243,11 +243,11 @@ unfolding listed
 length-listed f zero = refl
 length-listed f (suc n) = ap suc (length-listed (λ i. f (suc i)) n)
 
-pub getD-listed {ℓ} : {A : Type ℓ} (f : ℕ → A) (n i : ℕ) (d : A) → i < n → get_or (listed f n) i d ≡ f i
+pub get_or-listed {ℓ} : {A : Type ℓ} (f : ℕ → A) (n i : ℕ) (d : A) → i < n → get_or (listed f n) i d ≡ f i
 unfolding listed
-getD-listed f zero i d h = absurd (not-suc-le-zero h)
-getD-listed f (suc n) zero d h = refl
-getD-listed f (suc n) (suc i) d h = getD-listed (λ j. f (suc j)) n i d (le_of_suc-le-suc h)
+get_or-listed f zero i d h = absurd (not-suc-le-zero h)
+get_or-listed f (suc n) zero d h = refl
+get_or-listed f (suc n) (suc i) d h = get_or-listed (λ j. f (suc j)) n i d (le_of_suc-le-suc h)
 
 -- the first place at which a test holds: where it is below n the test holds there, it is n at most, and no later than any place at which
 -- the test holds

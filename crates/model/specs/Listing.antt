@@ -1,7 +1,7 @@
 -- Document 01, "Worked sheet and its listing": the bytes of the listing of a planned sheet, what the call that writes them leaves, and the
 -- line that the planning program writes for a refusal.
 use Rattle.std.specs.Prelude.{ℕ, zero, suc, ◌+◌, ◌*◌, ◌-◌, ◌^◌, ◌/◌, ◌%◌, cond, ◌&&◌, List, [], ◌∷◌, ◌++◌, leb, ltb, length}
-use Prim.Native.Char.{code as characterCode}
+use Prim.Native.Char.{code as character_code}
 use Prim.Native.String.{String, [] as [·], ◌∷◌ as ◌·∷◌}
 use Rattle.model.specs.Bytes.{Written, written}
 use Rattle.model.specs.View.{View, W}
@@ -12,7 +12,7 @@ use Rattle.model.specs.Tests.{Lines, line, ◌⨾◌, first_of, in_turn}
 -- a text's characters, each by its code
 abbrev pub text : String → List ℕ
 text [·] = []
-text (c ·∷ s) = characterCode c ∷ text s
+text (c ·∷ s) = character_code c ∷ text s
 
 -- a digit's character: 0 is 48
 abbrev pub digit : ℕ → ℕ

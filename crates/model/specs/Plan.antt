@@ -98,12 +98,12 @@ plan_needed s = s.horizon * N s
 
 -- "Planner, writer and row: 4 to 10, 11"; "11: a lent buffer shorter than needed", whose lengths are the rooms. 9 tests against the limit
 -- of the values' width
-unfoldable pub plan_lines : Width → View → (valuesRoom planRoom : ℕ) → Lines
-plan_lines width s valuesRoom planRoom =
-    sheet_lines width.limit s ⨾ line 11 (leb (value_places width s) valuesRoom && leb (plan_needed s) planRoom)
+unfoldable pub plan_lines : Width → View → (values_room plan_room : ℕ) → Lines
+plan_lines width s values_room plan_room =
+    sheet_lines width.limit s ⨾ line 11 (leb (value_places width s) values_room && leb (plan_needed s) plan_room)
 
 abbrev pub plan_refusal : Width → View → ℕ → ℕ → ℕ
-plan_refusal width s valuesRoom planRoom = first_of (plan_lines width s valuesRoom planRoom)
+plan_refusal width s values_room plan_room = first_of (plan_lines width s values_room plan_room)
 
 -- "12: planned, but the empty queue at slot 0 has none"
 abbrev pub number12 : Option ℕ → ℕ

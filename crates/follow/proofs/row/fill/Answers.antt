@@ -1,0 +1,31 @@
+-- `fill` meets its contract. The loop's invariant: the queues of the blocks passed are filled.
+use Prim.Native.Nat.{pred, ◌-◌, ◌≤◌}
+use mathlib.Core.Path.{◌≡◌}
+use native.Mathlib.Omega.{arith}
+use Rattle.model.specs.View.{view_of}
+use Rattle.model.specs.Queue.{queue_count}
+use Rattle.model.specs.Width.{value_in}
+use Rattle.queues.specs.Blocks.{InBlocks}
+use Rattle.buffers.specs.Fills.{FillsWhere}
+use Rattle.buffers.proofs.Filling.{value_local}
+use Rattle.rows.proofs.Blocks.{blocks_none, blocks_more, blocks_whole}
+use Rattle.value.specs.Narrow.{width, value_of}
+use Rattle.choose.proofs.Passing.{block_low}
+use Rattle.follow.specs.Pass.{cost_left}
+use Rattle.follow.proofs.row.fill.Goals as goal
+
+pub loop-block-preserved : goal.loop-block-preserved
+loop-block-preserved c =
+    let taken = c.loop-block-test.true in
+    let low = block_low c.requires.0 taken in
+    let block = c.fill_block.ensures in (
+      omega (arith, taken),
+      blocks_more (value_local width) low c.loop-block.invariant.1 block,
+    )
+
+pub returns : goal.returns
+returns c =
+    let measured = c.requires.0.measured in
+    let all : c.loop-block.block ≡ queue_count c.args.sizes.largest (pred c.args.sizes.bound) =
+    omega (arith, c.loop-block.invariant.0, c.loop-block-test.false, measured.after_is) in
+    blocks_whole (value_local width) all measured.queues_is c.loop-block.invariant.1
