@@ -28,11 +28,11 @@ module _ (s : View) (least : ℕ) (plan : List ℕ) where
   listing_refused buffer {number = number} e some =
       refused_with buffer number (list_refused s least plan (length buffer) e some) some
 
-  module _ {queues scale : ℕ} (accepted : row_refusal s (length plan) ≡ 0) (queues-are : queues ≡ N s) (scale_is : scale ≡ scale_of s) where
+  module _ {queues scale : ℕ} (accepted : row_refusal s (length plan) ≡ 0) (queues_are : queues ≡ N s) (scale_is : scale ≡ scale_of s) where
     -- what the code puts is the listing
     whole : whole_listing queues scale least plan s.horizon ≡ listing s least plan
     unfolding listing
-    whole = rw (queues-are, scale_is)
+    whole = rw (queues_are, scale_is)
 
     -- the buffer is too short
     pub listing_short : (buffer : List ℕ) → length buffer < length (whole_listing queues scale least plan s.horizon) →

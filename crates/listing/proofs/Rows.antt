@@ -14,11 +14,11 @@ use Rattle.lines.specs.Lines.{HasRows}
 -- where the row call's tests refuse nothing, the plan has every row of the sheet
 pub rows_accepted : (s : View) {plan : List ℕ} {queues : ℕ} → row_refusal s (length plan) ≡ 0 → queues ≡ N s →
     HasRows plan queues s.horizon
-rows_accepted s {plan = plan} e queues-are =
+rows_accepted s {plan = plan} e queues_are =
     let row = row_accepted s (length plan) e in
     let sheet = accepted s row.0 in
     record {
       few_queues = omega (arith, sheet.queues_high);
       few_slots = sheet.ranged.horizon_high;
-      rows = omega (arith, row.1, ap (λ (n : ℕ). s.horizon * n) queues-are);
+      rows = omega (arith, row.1, ap (λ (n : ℕ). s.horizon * n) queues_are);
     }

@@ -1,13 +1,9 @@
 -- `bearable` meets its contract. The loop's invariant: every place passed has met the test. The measure is what is left of the bound.
 use Prim.Native.Nat.{◌≤◌, ◌-◌}
-use mathlib.Core.Path.{◌≡◌, refl, sym, ap, ◌∙◌}
+use mathlib.Core.Path.{◌≡◌}
 use mathlib.Core.Bool.{true}
-use native.Mathlib.Omega.{arith}
-use borrow.Author.Tests.{not-true, not-false}
 use Rattle.model.specs.Tests.{everywhere}
 use Rattle.model.specs.Queue.{bearable_at}
-use Rattle.model.proofs.Tests.{everywhere_fails, everywhere_more}
-use Rattle.slot.proofs.Places.{bearable_in_lem}
 use Rattle.slot.proofs.bearable.Given as goal
 
 abbrev pub invariant-loop-u : goal.invariant-loop-u

@@ -1,8 +1,6 @@
 -- `bearable_in` meets its contract: the queue is tested first, and where it is bearable the unused places decide.
 use mathlib.Core.Path.{sym, ◌∙◌}
 use mathlib.Core.Bool.{true, false}
-use borrow.Author.Rules.{rules}
-use borrow.Author.Tests.{not-true, not-false}
 use Rattle.slot.proofs.Places.{bearable_unused}
 use Rattle.slot.proofs.bearable_in.Goals as goal
 

@@ -1,9 +1,6 @@
 -- `unused_zero` meets its contract. The loop's invariant: every place passed is zero. The measure is what is left of the six places.
-use Prim.Native.Nat.{ℕ, ◌≤◌, ◌<◌, ◌-◌}
-use mathlib.Core.Path.{◌≡◌, sym}
+use mathlib.Core.Path.{sym}
 use native.Mathlib.Omega.{arith}
-use borrow.Author.Count.{below_more}
-use lib.ListN.{get_or}
 use Rattle.slot.proofs.Places.{unused_all, unused_fails}
 use Rattle.slot.proofs.unused_zero.Goals as goal
 

@@ -1,10 +1,7 @@
 -- `unused_zero` meets its contract. The loop's invariant: every place passed is zero. The measure is what is left of the six places.
 use Prim.Native.Nat.{ℕ, ◌≤◌, ◌<◌, ◌-◌}
-use mathlib.Core.Path.{◌≡◌, sym}
-use native.Mathlib.Omega.{arith}
-use borrow.Author.Count.{below_more}
+use mathlib.Core.Path.{◌≡◌}
 use lib.ListN.{get_or}
-use Rattle.slot.proofs.Places.{unused_all, unused_fails}
 use Rattle.slot.proofs.unused_zero.Given as goal
 
 abbrev pub invariant-loop-place : goal.invariant-loop-place
