@@ -1,6 +1,5 @@
 -- `greatest_of` meets its contract. The loop's invariant: the speed and the energy so far are the greatest of the places passed.
-use Prim.Native.Nat.{◌≤◌, ◌-◌}
-use mathlib.Core.Path.{◌≡◌, refl, ap}
+use mathlib.Core.Path.{refl, ap}
 use native.Mathlib.Omega.{arith}
 use Rattle.model.proofs.Refusal.{ranged}
 use Rattle.model.specs.View.{view_of, speed_at, energy_at, M, greatest_energy}

@@ -1,6 +1,5 @@
 -- `greatest_or_one` meets its contract: whether the greatest energy is 0 decides what G is.
 use mathlib.Core.Path.{sym, ◌∙◌}
-use borrow.Author.Rules.{rules}
 use Rattle.model.proofs.Refusal.{G_none, G_some}
 use Rattle.model.specs.View.{view_of}
 use Rattle.limits.proofs.greatest_or_one.Goals as goal

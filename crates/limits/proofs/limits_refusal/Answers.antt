@@ -1,6 +1,5 @@
 -- `limits_refusal` meets its contract: number 9 first, then number 10.
 use mathlib.Core.Path.{sym, ◌∙◌}
-use borrow.Author.Rules.{rules}
 use borrow.Author.Tests.{le-leb, lt-leb}
 use Rattle.model.proofs.Tests.{then_passes, then_fails, check_true, check_false}
 use Rattle.model.specs.View.{view_of}

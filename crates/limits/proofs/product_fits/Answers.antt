@@ -1,9 +1,8 @@
 -- `product_fits` meets its contract. The loop's invariant: the product so far is the first number times so many factors, and within the
 -- limit.
-use Prim.Native.Nat.{◌*◌, ◌^◌, ◌≤◌, ◌-◌}
-use mathlib.Core.Path.{◌≡◌, sym}
+use mathlib.Core.Path.{sym}
 use native.Mathlib.Omega.{arith}
-use Rattle.limits.proofs.Products.{product_next, product_room, product_passes, product_within, product_first, product_none}
+use Rattle.limits.proofs.Products.{product_next, product_room, product_passes, product_first}
 use Rattle.limits.proofs.product_fits.Goals as goal
 
 pub returns-then-limit-first : goal.returns-then-limit-first

@@ -1,9 +1,7 @@
 -- `product_fits` meets its contract. The loop's invariant: the product so far is the first number times so many factors, and within the
 -- limit.
 use Prim.Native.Nat.{◌*◌, ◌^◌, ◌≤◌, ◌-◌}
-use mathlib.Core.Path.{◌≡◌, sym}
-use native.Mathlib.Omega.{arith}
-use Rattle.limits.proofs.Products.{product_next, product_room, product_passes, product_within, product_first, product_none}
+use mathlib.Core.Path.{◌≡◌}
 use Rattle.limits.proofs.product_fits.Given as goal
 
 abbrev pub invariant-loop-done : goal.invariant-loop-done

@@ -2,7 +2,6 @@
 use Prim.Native.Nat.{ℕ}
 use mathlib.Core.Path.{sym, ap, ◌∙◌}
 use native.Mathlib.Omega.{arith}
-use borrow.Author.Rules.{rules}
 use Rattle.model.proofs.Refusal.{ranged, N_is}
 use Rattle.model.specs.View.{view_of}
 use Rattle.model.specs.Queue.{queue_count}

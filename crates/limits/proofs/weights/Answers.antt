@@ -1,7 +1,6 @@
 -- `weights` meets its contract. The loop's invariant: the sum so far is that of the weights passed. No sum wraps: each weight is at most
 -- 255.
-use Prim.Native.Nat.{◌≤◌, ◌-◌}
-use mathlib.Core.Path.{◌≡◌, refl, sym, ap}
+use mathlib.Core.Path.{refl, sym, ap}
 use native.Mathlib.Omega.{arith}
 use Rattle.process.specs.Sums.{sum}
 use Rattle.process.proofs.Sums.{sum_next, sum_whole}

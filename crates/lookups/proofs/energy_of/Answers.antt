@@ -1,6 +1,5 @@
 -- `energy_of` meets its contract: the speed's place is found, and its energy stands there.
 use native.Mathlib.Omega.{arith}
-use borrow.Author.Rules.{rules}
 use Rattle.model.proofs.Refusal.{ranged}
 use Rattle.model.specs.View.{view_of}
 use Rattle.lookups.proofs.Looking.{energy_at_place}

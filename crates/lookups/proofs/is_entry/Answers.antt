@@ -1,11 +1,9 @@
 -- `is_entry` meets its contract. The loop's invariant: no entry passed has this size and deadline.
-use Prim.Native.Nat.{◌-◌, ◌≤◌, ◌<◌}
-use mathlib.Core.Bool.{false}
-use mathlib.Core.Path.{◌≡◌, refl}
+use Prim.Native.Nat.{◌<◌}
+use mathlib.Core.Path.{refl}
 use native.Mathlib.Omega.{arith}
 use Rattle.model.proofs.Refusal.{ranged}
 use Rattle.model.specs.View.{view_of}
-use Rattle.model.specs.Stepper.{is_entry_at}
 use Rattle.model.specs.Tests.{anywhere}
 use Rattle.lookups.proofs.Looking.{entry_not_here, entry_found, entry_nowhere}
 use Rattle.lookups.proofs.is_entry.Goals as goal

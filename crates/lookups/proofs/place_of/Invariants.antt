@@ -1,11 +1,8 @@
 -- `place_of` meets its contract. The loop's invariant: the speed stands at no place passed.
 use Prim.Native.Nat.{◌-◌, ◌≤◌}
-use mathlib.Core.Path.{◌≡◌, refl}
-use native.Mathlib.Omega.{arith}
-use Rattle.model.proofs.Refusal.{ranged}
+use mathlib.Core.Path.{◌≡◌}
 use Rattle.model.specs.View.{view_of, is_speed_at}
 use Rattle.model.specs.Tests.{first_place}
-use Rattle.lookups.proofs.Looking.{speed_not_here, speed_found, speed_nowhere}
 use Rattle.lookups.proofs.place_of.Given as goal
 
 abbrev pub invariant-loop-place : goal.invariant-loop-place

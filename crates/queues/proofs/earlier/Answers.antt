@@ -3,7 +3,6 @@ use Prim.Native.Nat.{◌+◌, ◌*◌, ◌≤◌}
 use native.Mathlib.Omega.{arith}
 use Rattle.model.specs.Queue.{total}
 use Rattle.queues.proofs.Numbering.{position_safe, position_needed, position_earlier}
-use borrow.Author.Rules.{rules}
 use lib.ListN.{get_or}
 use Rattle.queues.proofs.earlier.Goals as goal
 use Rattle.queues.proofs.earlier.Goals.{Start}

@@ -1,6 +1,5 @@
 -- `next_total` meets its contract: the queue wanted is still at the place among those that begin with the total or a larger one.
-use native.Mathlib.Omega.{arith}
-use Rattle.queues.proofs.Finding.{Searching, search_begins, search_needed, search_goes_on, search_ends}
+use Rattle.queues.proofs.Finding.{Searching}
 use Rattle.queues.proofs.next_total.Given as goal
 
 abbrev pub invariant-loop-place : goal.invariant-loop-place

@@ -1,11 +1,8 @@
 -- `number` meets its contract: so far the sum is what comes before the queue at the first positions; the whole of it is below N.
-use Prim.Native.Nat.{◌-◌, ◌≤◌}
-use mathlib.Core.Path.{◌≡◌, refl, ◌∙◌}
+use mathlib.Core.Path.{refl, ◌∙◌}
 use native.Mathlib.Omega.{arith}
 use Rattle.process.specs.Sums.{sum}
 use Rattle.process.proofs.Sums.{sum_next, sum_whole}
-use Rattle.model.specs.Queue.{queue_in}
-use Rattle.queues.specs.Order.{earlier_at}
 use Rattle.queues.proofs.Numbering.{position_fits, number_whole}
 use Rattle.queues.proofs.number.Goals as goal
 

@@ -1,7 +1,5 @@
 -- `queue_at` meets its contract: what is fixed so far, followed by the queue at the place among what may follow, is the queue wanted.
-use Prim.Native.Nat.{◌-◌}
-use native.Mathlib.Omega.{arith}
-use Rattle.queues.proofs.Finding.{Fixing, fixing_begins, fixing_leads, fixing_goes_on, fixing_ends}
+use Rattle.queues.proofs.Finding.{fixing_begins, fixing_goes_on, fixing_ends}
 use Rattle.queues.proofs.queue_at.Goals as goal
 
 pub loop-fixed-init : goal.loop-fixed-init

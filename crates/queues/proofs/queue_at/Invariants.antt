@@ -1,7 +1,6 @@
 -- `queue_at` meets its contract: what is fixed so far, followed by the queue at the place among what may follow, is the queue wanted.
 use Prim.Native.Nat.{◌-◌}
-use native.Mathlib.Omega.{arith}
-use Rattle.queues.proofs.Finding.{Fixing, fixing_begins, fixing_leads, fixing_goes_on, fixing_ends}
+use Rattle.queues.proofs.Finding.{Fixing}
 use Rattle.queues.proofs.queue_at.Given as goal
 
 abbrev pub invariant-loop-fixed : goal.invariant-loop-fixed

@@ -1,8 +1,6 @@
 -- `queue_count` meets its contract: N sums the counts of the slacks 0 to M at the first position.
 use mathlib.Core.Path.{◌∙◌}
-use native.Mathlib.Omega.{arith}
-use Rattle.queues.proofs.Numbering.{queues_none, queues_needed, queues_counted}
-use borrow.Author.Rules.{rules}
+use Rattle.queues.proofs.Numbering.{queues_none, queues_counted}
 use Rattle.queues.proofs.queue_count.Goals as goal
 
 pub returns-then-bound-eq0 : goal.returns-then-bound-eq0

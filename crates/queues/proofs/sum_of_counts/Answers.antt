@@ -1,11 +1,9 @@
 -- `sum_of_counts` meets its contract: so far the sum is that of the first counts. Each is at most 49 ^ 5, so that 2 ^ 32 of them fit.
-use Prim.Native.Nat.{suc, ◌+◌, ◌-◌, ◌≤◌}
-use mathlib.Core.Path.{◌≡◌, refl}
+use Prim.Native.Nat.{suc}
+use mathlib.Core.Path.{refl}
 use native.Mathlib.Omega.{arith}
 use Rattle.process.specs.Sums.{sum}
-use Rattle.process.proofs.Sums.{sum_next, sum_whole}
-use Rattle.model.specs.Queue.{continuation_count}
-use Rattle.counts.proofs.Bounds.{slack_small}
+use Rattle.process.proofs.Sums.{sum_next}
 use Rattle.queues.proofs.Bounds.{counts_small}
 use Rattle.queues.proofs.sum_of_counts.Goals as goal
 

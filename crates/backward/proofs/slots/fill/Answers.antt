@@ -47,4 +47,10 @@ place-requires c =
     (small.0, omega (arith, small.1), omega arith)
 
 pub fill_slots-requires-clause-prepared : goal.fill_slots-requires-clause-prepared
-fill_slots-requires-clause-prepared c = ?
+fill_slots-requires-clause-prepared c =
+    (
+      c.requires.1,
+      c.requires.2,
+      omega (arith, c.requires.3, c.fill_end.ensures.same_length),
+      planned_none width (view_of c.args.sheet) c.requires.1.sized c.place.ensures c.fill_end.ensures c.args.plan.now,
+    )

@@ -1,10 +1,7 @@
 -- `byte_of_queue` meets its contract: the queue's number is below the count of queues.
-use mathlib.Core.Path.{ap, ◌∙◌}
 use native.Mathlib.Omega.{arith}
-use borrow.Author.Rules.{rules}
 use Rattle.model.proofs.Queues.{number_below, length_in}
 use Rattle.model.specs.Queue.{queue_in}
-use Rattle.layout.specs.Places.{byte_in}
 use Rattle.layout.proofs.bytes.byte_of_queue.Goals as goal
 
 pub byte_at-requires : goal.byte_at-requires

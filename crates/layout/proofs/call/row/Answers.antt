@@ -1,7 +1,6 @@
 -- `row` meets its contract: the call is refused, or the slot is not one of the sheet's, or the part is the slot's row.
 use mathlib.Core.Path.{◌≡◌, sym, ◌∙◌}
 use native.Mathlib.Omega.{arith}
-use borrow.Author.Rules.{rules}
 use lib.ListN.{length}
 use Rattle.laws.proofs.Rooms.{row_accepted, row_none, row_past, row_part}
 use Rattle.model.specs.View.{view_of}

@@ -2,7 +2,6 @@
 use Prim.Native.Nat.{ℕ, ◌+◌, ◌*◌}
 use mathlib.Core.Path.{◌≡◌, sym, ap, ◌∙◌}
 use native.Mathlib.Omega.{arith}
-use borrow.Author.Rules.{rules}
 use Rattle.model.proofs.Refusal.{fields_right, accepted}
 use Rattle.laws.proofs.Rooms.{row_refused, row_short, row_fits}
 use Rattle.model.specs.View.{view_of}

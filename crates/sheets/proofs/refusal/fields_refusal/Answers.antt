@@ -1,10 +1,9 @@
 -- `fields_refusal` meets its contract: each test in turn is the answer where it fails, and leaves the answer to the later ones where it
 -- passes.
 use mathlib.Core.Path.{sym, ◌∙◌}
-use borrow.Author.Rules.{rules}
 use Rattle.model.proofs.Tests.{then_passes, then_fails, then_on, then_stops}
 use Rattle.model.specs.Refusal.{field_lines}
-use Rattle.ranges.proofs.Answers.{passed_by, failed_by, within_by}
+use Rattle.ranges.proofs.Answers.{passed_by, failed_by}
 use Rattle.sheets.proofs.refusal.fields_refusal.Goals as goal
 
 pub returns-then-not-bound_right : goal.returns-then-not-bound_right

@@ -1,10 +1,8 @@
 -- `jobs_refusal` meets its contract. The loop's invariant: every job passed has the number 0.
-use Prim.Native.Nat.{◌≤◌, ◌-◌}
-use mathlib.Core.Path.{◌≡◌, refl, sym, ap, ◌∙◌}
+use mathlib.Core.Path.{refl, sym, ◌∙◌}
 use native.Mathlib.Omega.{arith}
 use Rattle.model.proofs.Tests.{in_order_more, in_order_first}
-use Rattle.model.specs.View.{view_of}
-use Rattle.model.specs.Refusal.{jobs_refusal, jobs_lines}
+use Rattle.model.specs.Refusal.{jobs_lines}
 use Rattle.model.specs.Tests.{in_order}
 use Rattle.sheets.proofs.refusal.jobs_refusal.Goals as goal
 

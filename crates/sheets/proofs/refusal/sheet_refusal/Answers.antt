@@ -1,6 +1,5 @@
 -- `sheet_refusal` meets its contract: the fields are tested first, then the limits.
 use mathlib.Core.Path.{sym, ◌∙◌}
-use borrow.Author.Rules.{rules}
 use Rattle.model.proofs.Tests.{then_on, then_stops}
 use Rattle.model.specs.Refusal.{lines_given, sheet_lines}
 use Rattle.sheets.proofs.refusal.sheet_refusal.Goals as goal

@@ -1,11 +1,8 @@
 -- `speeds_refusal` meets its contract. The loop's invariant: every speed passed has the number 0.
 use Prim.Native.Nat.{◌≤◌, ◌-◌}
-use mathlib.Core.Path.{◌≡◌, refl, sym, ap, ◌∙◌}
-use native.Mathlib.Omega.{arith}
-use Rattle.model.proofs.Tests.{in_order_more, in_order_first}
+use mathlib.Core.Path.{◌≡◌}
 use Rattle.model.specs.View.{view_of}
-use Rattle.model.specs.Refusal.{speeds_refusal, speeds_lines}
-use Rattle.model.specs.Tests.{in_order}
+use Rattle.model.specs.Refusal.{speeds_refusal}
 use Rattle.sheets.proofs.refusal.speeds_refusal.Given as goal
 
 abbrev pub invariant-loop-place : goal.invariant-loop-place

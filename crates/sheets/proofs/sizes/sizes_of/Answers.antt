@@ -3,8 +3,7 @@
 use Prim.Native.Nat.{ℕ, pred}
 use mathlib.Core.Path.{refl, sym, ap, ◌∙◌}
 use native.Mathlib.Omega.{arith}
-use borrow.Author.Rules.{rules}
-use Rattle.model.specs.View.{view_of, M}
+use Rattle.model.specs.View.{view_of}
 use Rattle.model.specs.Queue.{queue_count}
 use Rattle.model.proofs.Refusal.{ranged, N_is}
 use Rattle.queues.proofs.Bounds.{ranges_of}
