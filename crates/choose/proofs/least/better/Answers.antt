@@ -1,6 +1,5 @@
 -- `better` meets its contract: `less` tells whether the speed is taken.
 use mathlib.Core.Path.{sym, ◌∙◌}
-use borrow.Author.Rules.{rules}
 use Rattle.value.specs.Narrow.{value_of}
 use Rattle.choose.proofs.Choices.{better_taken, better_left}
 use Rattle.choose.proofs.least.better.Goals as goal

@@ -1,15 +1,9 @@
 -- `choose` meets its contract. The loop's invariant: the least so far is the least over the speeds passed, and the cost of those before the
 -- first that leads on is none.
-use Prim.Native.Nat.{◌+◌, ◌-◌, ◌≤◌}
-use mathlib.Core.Path.{◌≡◌}
 use native.Mathlib.Omega.{arith}
 use Rattle.model.specs.View.{view_of, speed_at}
-use Rattle.queues.specs.Blocks.{queue_with, first_of, number_in}
-use Rattle.value.specs.Narrow.{width, value_of}
-use Rattle.speed_lanes.specs.Lanes.{slowest_in}
-use Rattle.choose.specs.Choice.{cost_at, least_to, IsChoice}
 use Rattle.choose.proofs.Choices.{least_begun, least_more}
-use Rattle.choose.proofs.Passing.{LineAt, columns_room, line_asked, line_there, slowest_few, slower_none}
+use Rattle.choose.proofs.Passing.{LineAt, line_asked, line_there, slowest_few, slower_none}
 use Rattle.choose.proofs.least.choose.Goals as goal
 use Rattle.choose.proofs.least.choose.Goals.{After-line_at}
 

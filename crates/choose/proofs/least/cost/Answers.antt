@@ -2,11 +2,10 @@
 use Prim.Native.Nat.{◌+◌, ◌<◌}
 use mathlib.Core.Path.{sym, ◌∙◌}
 use native.Mathlib.Omega.{arith}
-use borrow.Author.Rules.{rules}
 use lib.ListN.{get_or}
 use Rattle.value.specs.Narrow.{width}
 use Rattle.buffers.proofs.Filling.{fewer_fit}
-use Rattle.choose.proofs.Passing.{LineAt, columns_room, end_small, line_asked, line_there, cost_past, found_low, cost_there, cost_fits}
+use Rattle.choose.proofs.Passing.{LineAt, end_small, line_asked, line_there, cost_past, found_low, cost_there, cost_fits}
 use Rattle.choose.proofs.least.cost.Goals as goal
 use Rattle.choose.proofs.least.cost.Goals.{After-line_at-at, After-shared_slice_known-5-1}
 

@@ -1,15 +1,9 @@
 -- `fill` meets its contract. The loop's invariant: the queues of the blocks passed are filled.
-use Prim.Native.Nat.{pred, ◌-◌, ◌≤◌}
-use mathlib.Core.Path.{◌≡◌}
-use native.Mathlib.Omega.{arith}
+use Prim.Native.Nat.{◌-◌, ◌≤◌}
 use Rattle.model.specs.View.{view_of}
-use Rattle.model.specs.Queue.{queue_count}
 use Rattle.queues.specs.Blocks.{InBlocks}
-use Rattle.buffers.proofs.Filling.{value_local, number_local}
-use Rattle.rows.proofs.Blocks.{blocks_none, blocks_more, blocks_whole}
 use Rattle.value.specs.Narrow.{width, value_of}
 use Rattle.choose.specs.Pass.{LeftWhere}
-use Rattle.choose.proofs.Passing.{block_low}
 use Rattle.choose.proofs.row.fill.Given as goal
 
 abbrev pub invariant-loop-block : goal.invariant-loop-block

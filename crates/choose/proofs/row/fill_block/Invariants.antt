@@ -1,15 +1,10 @@
 -- `fill_block` meets its contract. The loop's invariant: the queues of the block with a smaller last total are filled.
-use Prim.Native.Nat.{suc, ◌-◌, ◌*◌, ◌≤◌}
-use mathlib.Core.Path.{◌≡◌, refl}
-use native.Mathlib.Omega.{arith}
+use Prim.Native.Nat.{suc, ◌-◌, ◌≤◌}
+use mathlib.Core.Path.{◌≡◌}
 use Rattle.model.specs.View.{view_of}
-use Rattle.queues.specs.Blocks.{lowest_of, number_in, InBlock}
+use Rattle.queues.specs.Blocks.{lowest_of, InBlock}
 use Rattle.value.specs.Narrow.{width, value_of}
-use Rattle.buffers.proofs.Filling.{value_local, number_local}
-use Rattle.rows.proofs.Blocks.{block_none, block_more}
-use Rattle.rows.proofs.Room.{most_total}
-use Rattle.choose.specs.Pass.{Within, LeftWhere}
-use Rattle.choose.proofs.Passing.{LineAt, block_low, lowest_high, line_asked, line_there}
+use Rattle.choose.specs.Pass.{LeftWhere}
 use Rattle.choose.proofs.row.fill_block.Given as goal
 
 abbrev pub invariant-loop-last : goal.invariant-loop-last

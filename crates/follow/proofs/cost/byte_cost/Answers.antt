@@ -3,7 +3,6 @@
 use Prim.Native.Nat.{◌<◌}
 use mathlib.Core.Path.{◌≡◌, sym, ◌∙◌}
 use native.Mathlib.Omega.{arith}
-use borrow.Author.Rules.{rules}
 use lib.ListN.{get_or}
 use Rattle.model.specs.View.{view_of, place_of_speed}
 use Rattle.value.specs.Narrow.{width}

@@ -1,17 +1,12 @@
 -- `fill` meets its contract. The loop's invariant: the queues of the blocks passed are filled.
-use Prim.Native.Nat.{pred, ◌-◌, ◌≤◌}
+use Prim.Native.Nat.{pred}
 use mathlib.Core.Path.{◌≡◌}
 use native.Mathlib.Omega.{arith}
-use Rattle.model.specs.View.{view_of}
 use Rattle.model.specs.Queue.{queue_count}
-use Rattle.model.specs.Width.{value_in}
-use Rattle.queues.specs.Blocks.{InBlocks}
-use Rattle.buffers.specs.Fills.{FillsWhere}
 use Rattle.buffers.proofs.Filling.{value_local}
-use Rattle.rows.proofs.Blocks.{blocks_none, blocks_more, blocks_whole}
-use Rattle.value.specs.Narrow.{width, value_of}
+use Rattle.rows.proofs.Blocks.{blocks_more, blocks_whole}
+use Rattle.value.specs.Narrow.{width}
 use Rattle.choose.proofs.Passing.{block_low}
-use Rattle.follow.specs.Pass.{cost_left}
 use Rattle.follow.proofs.row.fill.Goals as goal
 
 pub loop-block-preserved : goal.loop-block-preserved

@@ -1,17 +1,12 @@
 -- `fill_block` meets its contract. The loop's invariant: the queues of the block with a smaller last total are filled.
-use Prim.Native.Nat.{suc, ◌-◌, ◌*◌, ◌≤◌}
-use mathlib.Core.Path.{◌≡◌, refl}
+use Prim.Native.Nat.{◌*◌, ◌≤◌}
+use mathlib.Core.Path.{refl}
 use native.Mathlib.Omega.{arith}
-use Rattle.model.specs.View.{view_of}
-use Rattle.model.specs.Width.{value_in}
-use Rattle.queues.specs.Blocks.{lowest_of, number_in, InBlock}
-use Rattle.value.specs.Narrow.{width, value_of}
-use Rattle.buffers.specs.Fills.{FillsWhere}
+use Rattle.queues.specs.Blocks.{number_in}
+use Rattle.value.specs.Narrow.{width}
 use Rattle.buffers.proofs.Filling.{value_local}
 use Rattle.rows.proofs.Blocks.{block_none, block_more}
-use Rattle.rows.proofs.Room.{most_total}
 use Rattle.choose.specs.Pass.{Within}
-use Rattle.follow.specs.Pass.{cost_left}
 use Rattle.choose.proofs.Passing.{LineAt, block_low, lowest_high, line_asked, line_there}
 use Rattle.follow.proofs.row.fill_block.Goals as goal
 use Rattle.follow.proofs.row.fill_block.Goals.{After-line_at, At-loop-last}

@@ -1,14 +1,13 @@
 -- `rule` meets its contract: the call is refused and nothing is touched, or the plan is filled.
 use mathlib.Core.Path.{◌≡◌, sym, ◌∙◌}
 use native.Mathlib.Omega.{arith}
-use borrow.Author.Rules.{rules}
 use lib.ListN.{length}
 use Rattle.laws.proofs.Rooms.{row_accepted}
 use Rattle.model.proofs.Refusal.{accepted, fields_right}
 use Rattle.model.specs.View.{View, view_of}
 use Rattle.model.specs.Plan.{row_refusal}
 use Rattle.model.specs.Refusal.{sheet_refusal, value_limit}
-use Rattle.old_rule.proofs.Outcomes.{refused_rule, filled_rule}
+use Rattle.old_rule.proofs.Outcomes.{filled_rule}
 use Rattle.old_rule.proofs.call.rule.Goals as goal
 use Rattle.old_rule.proofs.call.rule.Goals.{Else-number-ne0}
 
@@ -29,12 +28,11 @@ sizes_of-sizes-requires c =
     (c.table-counts.ensures, fields_right value_limit (sheet (goal.at.sizes_of-sizes-requires c).Else-number-ne0) (sheet-right (goal.at.sizes_of-sizes-requires c).Else-number-ne0))
 
 pub fill-requires : goal.fill-requires
-fill-requires c =
-    (
-      c.table-counts.ensures,
-      record { accepted = sheet-right (goal.at.fill-requires c).Else-number-ne0; sized = c.sizes_of-sizes.ensures },
-      (row_accepted (sheet (goal.at.fill-requires c).Else-number-ne0) _ (passed (goal.at.fill-requires c).Else-number-ne0)).1,
-    )
+fill-requires c = (
+  c.table-counts.ensures,
+  record { accepted = sheet-right (goal.at.fill-requires c).Else-number-ne0; sized = c.sizes_of-sizes.ensures },
+  (row_accepted (sheet (goal.at.fill-requires c).Else-number-ne0) _ (passed (goal.at.fill-requires c).Else-number-ne0)).1,
+)
 
 pub overflow_cast-result : goal.overflow_cast-result
 overflow_cast-result c =

@@ -1,15 +1,14 @@
 -- `fill_first` meets its contract. The loop's invariant: the bytes passed are the rule's speeds, and nothing else has changed.
-use Prim.Native.Nat.{◌-◌, ◌≤◌, ◌<◌}
-use mathlib.Core.Path.{◌≡◌, subst}
+use Prim.Native.Nat.{◌<◌}
+use mathlib.Core.Path.{subst}
 use native.Mathlib.Omega.{arith}
 use lib.ListN.{length}
 use Rattle.model.proofs.Refusal.{Ranged, accepted, fields_right}
 use Rattle.model.specs.View.{view_of}
-use Rattle.model.specs.Refusal.{N, value_limit}
+use Rattle.model.specs.Refusal.{value_limit}
 use Rattle.model.specs.Pricing.{IsRuleSpeed}
 use Rattle.sheets.proofs.Measures.{sized_ranges}
-use Rattle.old_rule.specs.Rows.{FilledTo}
-use Rattle.old_rule.proofs.Filling.{filled_none, filled_first, first_within, rule_small, number_low, queue_found, found_bearable}
+use Rattle.old_rule.proofs.Filling.{filled_first, first_within, rule_small, number_low, queue_found, found_bearable}
 use Rattle.old_rule.proofs.rows.fill_first.Goals as goal
 use Rattle.old_rule.proofs.rows.fill_first.Goals.{In-loop-number, Start}
 
@@ -33,11 +32,10 @@ queue_at-queue-requires c =
     (c.requires.0, sized_ranges (ranges (goal.at.queue_at-queue-requires c).Start) c.requires.1.sized, number_low c.requires.1 c.loop-number-test.true)
 
 pub speed_of-requires : goal.speed_of-requires
-speed_of-requires c =
-    (
-      fields_right value_limit (view_of c.args.sheet) c.requires.1.accepted,
-      found_bearable c.requires.1 c.loop-number-test.true c.queue_at-queue.ensures,
-    )
+speed_of-requires c = (
+  fields_right value_limit (view_of c.args.sheet) c.requires.1.accepted,
+  found_bearable c.requires.1 c.loop-number-test.true c.queue_at-queue.ensures,
+)
 
 pub overflow_cast-plan : goal.overflow_cast-plan
 overflow_cast-plan c =

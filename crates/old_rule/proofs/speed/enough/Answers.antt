@@ -1,8 +1,5 @@
 -- `enough` meets its contract. The loop's invariant: every place passed has met the test.
-use Prim.Native.Nat.{◌+◌, ◌-◌, ◌≤◌}
 use mathlib.Core.Path.{◌≡◌, refl, sym, ap, ◌∙◌}
-use mathlib.Core.Bool.{true}
-use native.Mathlib.Nat.{mul-le-mul}
 use native.Mathlib.Omega.{arith}
 use Rattle.model.specs.Pricing.{enough_at}
 use Rattle.model.specs.Tests.{everywhere}

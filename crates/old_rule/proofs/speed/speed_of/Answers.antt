@@ -1,13 +1,11 @@
 -- `speed_of` meets its contract. The loop's invariant: no speed passed is enough, and one at least is left.
-use Prim.Native.Nat.{◌-◌, ◌<◌}
 use mathlib.Core.Path.{sym, ◌∙◌, subst}
 use native.Mathlib.Nat.{not-suc-le-zero}
 use native.Mathlib.Omega.{arith}
 use lib.Dec.{T}
 use Rattle.model.proofs.Refusal.{Ranged, ranged}
-use Rattle.model.specs.Queue.{queue_in}
 use Rattle.model.specs.View.{view_of}
-use Rattle.old_rule.proofs.Smallest.{NoneBefore, speed_here, none_more, first_smallest, last_smallest}
+use Rattle.old_rule.proofs.Smallest.{speed_here, first_smallest, last_smallest}
 use Rattle.old_rule.proofs.speed.speed_of.Goals as goal
 use Rattle.old_rule.proofs.speed.speed_of.Goals.{Start}
 

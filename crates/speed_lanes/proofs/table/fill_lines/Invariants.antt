@@ -1,9 +1,7 @@
 -- `fill_lines` meets its contract. The loop's invariant: the lines of the blocks passed are put.
 use Prim.Native.Nat.{◌-◌, ◌≤◌}
-use native.Mathlib.Omega.{arith}
 use Rattle.model.specs.View.{view_of}
 use Rattle.rows.specs.Tables.{LinesPut}
-use Rattle.rows.proofs.Tables.{put_none, put_more, put_all}
 use Rattle.speed_lanes.specs.Lanes.{speed_line}
 use Rattle.speed_lanes.proofs.table.fill_lines.Given as goal
 

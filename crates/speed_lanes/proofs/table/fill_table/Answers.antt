@@ -1,5 +1,4 @@
 -- `fill_table` meets its contract: the columns, and behind them the lines, which leave the columns as they are.
-use borrow.Author.Rules.{rules}
 use Rattle.model.proofs.Refusal.{ranged}
 use Rattle.rows.proofs.Tables.{table_whole}
 use Rattle.speed_lanes.proofs.table.fill_table.Goals as goal

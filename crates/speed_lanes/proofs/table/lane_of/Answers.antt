@@ -2,10 +2,9 @@
 use Prim.Native.Nat.{◌-◌}
 use mathlib.Core.Path.{◌≡◌, ap, ◌∙◌}
 use native.Mathlib.Omega.{arith}
-use borrow.Author.Rules.{rules}
 use Rattle.model.specs.Queue.{queue_in, number_of}
 use Rattle.queues.specs.Order.{Numbered}
-use Rattle.rows.proofs.Answers.{holds_by, number_by, none_by}
+use Rattle.rows.proofs.Answers.{holds_by, number_by}
 use Rattle.rows.proofs.Room.{numbered_before, number_before_small}
 use Rattle.speed_lanes.specs.Lanes.{after_of}
 use Rattle.speed_lanes.proofs.Lanes.{after_places, leads_parts}

@@ -1,9 +1,8 @@
 -- `leads_on` meets its contract: the speed is compared with w(1), and what is left after the slot is tested.
 use mathlib.Core.Path.{sym, ap, ◌∙◌}
 use native.Mathlib.Omega.{arith}
-use borrow.Author.Rules.{rules}
 use Rattle.model.specs.Queue.{bearable}
-use Rattle.speed_lanes.proofs.Lanes.{after_places, leads_slow, leads_fast}
+use Rattle.speed_lanes.proofs.Lanes.{after_places, leads_fast}
 use Rattle.speed_lanes.proofs.table.leads_on.Goals as goal
 
 pub returns : goal.returns

@@ -1,14 +1,8 @@
 -- `put_lanes` meets its contract. The loop's invariant: the lanes of the speeds passed stand there, and nothing else has changed.
 use Prim.Native.Nat.{◌-◌, ◌≤◌}
-use mathlib.Core.Path.{sym, ap, ◌∙◌}
-use native.Mathlib.Omega.{arith}
 use Rattle.model.specs.View.{view_of, speed_at}
 use Rattle.model.specs.Queue.{queue_in}
-use Rattle.model.specs.declared.Speed.{Speed}
-use Rattle.model.proofs.Refusal.{ranged}
-use Rattle.limits.proofs.Places.{speed_counts}
 use Rattle.buffers.specs.Fills.{Fills, number_at}
-use Rattle.buffers.proofs.Filling.{fills_none, fills_whole, number_more}
 use Rattle.speed_lanes.specs.Lanes.{lane_of}
 use Rattle.speed_lanes.proofs.table.put_lanes.Given as goal
 

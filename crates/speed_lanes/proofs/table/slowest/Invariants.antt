@@ -1,15 +1,9 @@
 -- `slowest` meets its contract. The loop's invariant: of the speeds passed none leads on.
-use Prim.Native.Nat.{ℕ, ◌-◌, ◌≤◌}
-use mathlib.Core.Path.{◌≡◌, refl, sym, ap, ◌∙◌}
-use mathlib.Core.Bool.{Bool}
-use native.Mathlib.Omega.{arith}
+use Prim.Native.Nat.{◌-◌, ◌≤◌}
+use mathlib.Core.Path.{◌≡◌}
 use Rattle.model.specs.View.{view_of, speed_at}
 use Rattle.model.specs.Queue.{queue_in}
 use Rattle.model.specs.Tests.{first_place}
-use Rattle.model.specs.declared.Speed.{Speed}
-use Rattle.model.proofs.Refusal.{ranged}
-use Rattle.model.proofs.Tests.{first_found, first_more}
-use Rattle.limits.proofs.Places.{speed_counts}
 use Rattle.speed_lanes.specs.Lanes.{leads_on}
 use Rattle.speed_lanes.proofs.table.slowest.Given as goal
 
