@@ -11,7 +11,7 @@ use native.Mathlib.Omega.{arith}
 use lib.ListN.{length, get_or}
 use Rattle.model.specs.Cases.{A, A0, A1, values_A0, values_A1, hopeless, none64, planned, Holds, cases_of_A, cases_of_hopeless, IsPlanOfA, IsPlanOfHopeless, rule_A, prices_A0, cases_of_prices, IsRuleOfA, IsPriceOfRuleOfA}
 use Rattle.model.specs.View.{View, view_of}
-use Rattle.model.specs.Plan.{place_at, queue_at, value_places, plan_needed, row_refusal, number12, PlanAnswer, FromEmpty, Filled}
+use Rattle.model.specs.Plan.{place_at, queue_at, value_places, plan_needed, row_refusal, number12, FromEmpty, Filled}
 use Rattle.model.specs.Pricing.{RuleFilled, LeavesRuleBy, LeavesRule, Priced}
 use Rattle.model.specs.Refusal.{N, sheet_refusal, value_limit}
 use Rattle.model.specs.declared.Sheet.{Sheet}

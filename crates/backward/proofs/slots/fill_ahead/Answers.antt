@@ -1,5 +1,4 @@
 -- `fill_ahead` meets its contract: the row says of each queue what its value is, so the sums that the first pass leaves are what is ahead.
-use borrow.Author.Rules.{rules}
 use Rattle.value.specs.Narrow.{width}
 use Rattle.backward.proofs.FirstPass.{value_valued, first_given, first_left, ahead_left}
 use Rattle.backward.proofs.slots.fill_ahead.Goals as goal

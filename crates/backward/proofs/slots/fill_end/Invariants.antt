@@ -1,12 +1,9 @@
 -- `fill_end` meets its contract. The loop's invariant: so many values of the end row stand there, and nothing else has changed.
 use Prim.Native.Nat.{◌≤◌, ◌-◌}
 use mathlib.Core.Option.{some}
-use mathlib.Core.Path.{refl}
-use native.Mathlib.Omega.{arith}
 use Rattle.buffers.specs.Fills.{Fills}
 use Rattle.value.specs.Narrow.{width}
 use Rattle.model.specs.Width.{value_in}
-use Rattle.buffers.proofs.Filling.{value_local, fills_none, fills_more, fills_whole}
 use Rattle.backward.proofs.slots.fill_end.Given as goal
 
 abbrev pub invariant-loop-number : goal.invariant-loop-number

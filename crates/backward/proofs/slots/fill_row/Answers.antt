@@ -1,5 +1,4 @@
 -- `fill_row` meets its contract: the buffer says what is ahead, so the least over the speeds that the second pass leaves is the recursion's.
-use borrow.Author.Rules.{rules}
 use Rattle.value.specs.Narrow.{width}
 use Rattle.backward.proofs.FirstPass.{value_valued}
 use Rattle.backward.proofs.SecondPass.{second_given, value_sums, second_left}

@@ -1,18 +1,16 @@
 -- `fill_slots` meets its contract. The loop's invariant: so many slots are planned, from the last one back, and the scale is W to the power
 -- of as many.
-use Prim.Native.Nat.{suc, ◌^◌, ◌≤◌, ◌-◌}
+use Prim.Native.Nat.{suc, ◌^◌}
 use mathlib.Core.Option.{some}
-use mathlib.Core.Path.{◌≡◌, refl, sym, ap, ◌∙◌, subst}
-use native.Mathlib.Nat.{pow-zero}
+use mathlib.Core.Path.{◌≡◌, sym, ap, ◌∙◌}
 use native.Mathlib.Numerals.{add-one}
 use native.Mathlib.Omega.{arith}
-use lib.ListN.{length}
-use Rattle.model.specs.View.{View, view_of, W}
+use Rattle.model.specs.View.{view_of, W}
 use Rattle.model.proofs.Refusal.{accepted, fields_right}
 use Rattle.value.specs.Narrow.{width, value_of}
 use Rattle.sheets.proofs.Measures.{measured, sizes_small}
 use Rattle.rows.proofs.Room.{after_room}
-use Rattle.backward.specs.Passes.{value_with, PlannedFrom}
+use Rattle.backward.specs.Passes.{value_with}
 use Rattle.backward.proofs.Backward.{scale_next, scale_room, SlotRows, slot_rows, slot_in_plan, values_room, plan_room, next_there, planned_values, planned_more}
 use Rattle.backward.proofs.slots.fill_slots.Goals as goal
 use Rattle.backward.proofs.slots.fill_slots.Goals.{After-add-next_scale, After-slot_with-slot}

@@ -2,18 +2,17 @@
 use Prim.Native.Nat.{◌≤◌}
 use mathlib.Core.Path.{◌≡◌, sym, ◌∙◌}
 use native.Mathlib.Omega.{arith}
-use borrow.Author.Rules.{rules}
 use lib.ListN.{length}
 use Rattle.model.proofs.Refusal.{accepted, fields_right}
 use Rattle.layout.proofs.Within.{place_is}
 use Rattle.laws.proofs.Rooms.{plan_accepted}
-use Rattle.model.specs.View.{View, view_of}
+use Rattle.model.specs.View.{view_of}
 use Rattle.model.specs.Plan.{plan_refusal, value_places}
 use Rattle.model.specs.Refusal.{sheet_refusal}
 use Rattle.value.specs.Narrow.{width}
 use Rattle.sheets.proofs.Measures.{sizes_small}
 use Rattle.lent.proofs.Rooms.{first_within}
-use Rattle.planner.proofs.Outcomes.{refused_plan, filled_plan}
+use Rattle.planner.proofs.Outcomes.{filled_plan}
 use Rattle.planner.proofs.Right.{memory_filled}
 use Rattle.planner.proofs.calls.plan.Goals as goal
 use Rattle.planner.proofs.calls.plan.Goals.{After-sizes_of-sizes, Else-number-ne0}
