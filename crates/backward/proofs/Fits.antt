@@ -1,5 +1,5 @@
 -- That nothing wraps: no sum over some of the entries, no cost and no scale passes the limit that number 9 tests. No loop's invariant has a
--- bound in it: one induction over the recursion bounds its values (value-most), the passes carry any bound on (AnyRow.antt of ahead and of
+-- bound in it: one induction over the recursion bounds its values (value_most), the passes carry any bound on (AnyRow.antt of ahead and of
 -- choose), and number 9 does the rest.
 use Prim.Native.Nat.{ℕ, suc, ◌+◌, ◌*◌, ◌^◌, ◌≤◌, ◌<◌}
 use mathlib.Core.Path.{sym, ap, ◌∙◌}

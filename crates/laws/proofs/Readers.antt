@@ -227,10 +227,10 @@ stand_split bytes (x ∷ l) m at next s =
     (mid, (s.0, s.1, a), b)
 
 -- the first of the lists that stand in turn
-in-turn-front {ℓ} : {A : Type ℓ} (f : ℕ → List A) (n : ℕ) → in_turn f (suc n) ≡ f 0 ++ in_turn (λ i. f (suc i)) n
+in_turn_front {ℓ} : {A : Type ℓ} (f : ℕ → List A) (n : ℕ) → in_turn f (suc n) ≡ f 0 ++ in_turn (λ i. f (suc i)) n
 unfolding in_turn
-in-turn-front f zero = sym (append-nil (f 0))
-in-turn-front f (suc n) = ap (λ l. l ++ f (suc n)) (in-turn-front f n) ∙ append_assoc (f 0) _ _
+in_turn_front f zero = sym (append-nil (f 0))
+in_turn_front f (suc n) = ap (λ l. l ++ f (suc n)) (in_turn_front f n) ∙ append_assoc (f 0) _ _
 
 -- the next place, counted from j or from the place after it
 pub shift : (j i : ℕ) → j + suc i ≡ suc j + i
@@ -274,7 +274,7 @@ module _ {A : Type 0} {zeros : A} {fields : A → List ℕ} {number : ℕ → A 
       let (c, ss, ts) = entries_gave n (suc j) v bytes mid rest end h in
       value_holds (EntriesStand (suc n) j w bytes at) k (
         ap suc c,
-        rw (in-turn-front (λ i. fields (get_or (v ∷ rest) i zeros)) n) (stand_join bytes (fields v) _ at mid end s ss),
+        rw (in_turn_front (λ i. fields (get_or (v ∷ rest) i zeros)) n) (stand_join bytes (fields v) _ at mid end s ss),
         elim [ zero ↦ (λ h. rw add-zero t) | suc i ↦ (λ h. rw (shift j i) (ts i (le_of_suc-le-suc h))) ],
       )
 
@@ -286,7 +286,7 @@ module _ {A : Type 0} {zeros : A} {fields : A → List ℕ} {number : ℕ → A 
   entries_value zero j w bytes at (v ∷ l) next r = absurd (suc-ne-zero (length l) r.0)
   entries_value (suc n) j w bytes at [] next r = absurd (suc-ne-zero n (sym r.0))
   entries_value (suc n) j w bytes at (v ∷ l) next r =
-      let front = rw (in-turn-front (λ i. fields (get_or (v ∷ l) i zeros)) n) at r.1 in
+      let front = rw (in_turn_front (λ i. fields (get_or (v ∷ l) i zeros)) n) at r.1 in
       let (mid, s, ss) = stand_split bytes (fields v) _ at next front in
       rw (
         table.some n j w,

@@ -17,18 +17,18 @@ use Rattle.process.specs.Sums.{sum, same}
 use Rattle.process.proofs.Sums.{same_refl, same_true}
 use Rattle.model.specs.Tests.{listed}
 use Rattle.model.specs.Queue.{Queue, total, totals, empty_queue, positions, queue_in, places_of, bearable_at, bearable, unused_at, unused_zero, bearable_in, run, arrive, one_slot, before, each_total, continuations, bearable_queues, queue_count, place_in, number_of, continuation_count}
-use Rattle.model.proofs.Tests.{check_passes, and_left, and_right, and_both, everywhere_at, everywhere_all, length-listed, get_or-listed}
+use Rattle.model.proofs.Tests.{check_passes, and_left, and_right, and_both, everywhere_at, everywhere_all, length_listed, get_or_listed}
 
 -- a queue by its totals
 
 -- it has as many totals as it was made with
 pub length_totals : (D : ℕ) (f : ℕ → ℕ) → length (totals D f) ≡ D
-length_totals D f = length-listed (λ i. f (suc i)) D
+length_totals D f = length_listed (λ i. f (suc i)) D
 
 -- the total at u is the one that it was made with
 pub total_totals : (D : ℕ) (f : ℕ → ℕ) (u : ℕ) → 1 ≤ u → u ≤ D → total (totals D f) u ≡ f u
 total_totals D f zero h k = absurd (not-suc-le-zero h)
-total_totals D f (suc i) h k = get_or-listed (λ j. f (suc j)) D i 0 k
+total_totals D f (suc i) h k = get_or_listed (λ j. f (suc j)) D i 0 k
 
 -- past the last position a total is 0
 pub total_past : (w : Queue) (u : ℕ) → length w < u → total w u ≡ 0
@@ -38,12 +38,12 @@ total_past w (suc i) h = get_or-eq_default w 0 (le_of_suc-le-suc h)
 -- a slot keeps the number of positions
 pub length_run : (w : Queue) (s : ℕ) → length (run w s) ≡ length w
 unfolding run
-length_run w s = length-listed _ (length w)
+length_run w s = length_listed _ (length w)
 
 -- an arrival keeps the number of positions
 pub length_arrive : (w : Queue) (c d : ℕ) → length (arrive w c d) ≡ length w
 unfolding arrive
-length_arrive w c d = length-listed _ (length w)
+length_arrive w c d = length_listed _ (length w)
 
 -- and so do both, one after the other
 pub length_slot : (w : Queue) (s c d : ℕ) → length (one_slot w s c d) ≡ length w

@@ -238,16 +238,16 @@ greatest_upto f (suc n) b all = max-le (greatest_upto f n b (λ i h. all i (omeg
 
 -- listed
 
-pub length-listed {ℓ} : {A : Type ℓ} (f : ℕ → A) (n : ℕ) → length (listed f n) ≡ n
+pub length_listed {ℓ} : {A : Type ℓ} (f : ℕ → A) (n : ℕ) → length (listed f n) ≡ n
 unfolding listed
-length-listed f zero = refl
-length-listed f (suc n) = ap suc (length-listed (λ i. f (suc i)) n)
+length_listed f zero = refl
+length_listed f (suc n) = ap suc (length_listed (λ i. f (suc i)) n)
 
-pub get_or-listed {ℓ} : {A : Type ℓ} (f : ℕ → A) (n i : ℕ) (d : A) → i < n → get_or (listed f n) i d ≡ f i
+pub get_or_listed {ℓ} : {A : Type ℓ} (f : ℕ → A) (n i : ℕ) (d : A) → i < n → get_or (listed f n) i d ≡ f i
 unfolding listed
-get_or-listed f zero i d h = absurd (not-suc-le-zero h)
-get_or-listed f (suc n) zero d h = refl
-get_or-listed f (suc n) (suc i) d h = get_or-listed (λ j. f (suc j)) n i d (le_of_suc-le-suc h)
+get_or_listed f zero i d h = absurd (not-suc-le-zero h)
+get_or_listed f (suc n) zero d h = refl
+get_or_listed f (suc n) (suc i) d h = get_or_listed (λ j. f (suc j)) n i d (le_of_suc-le-suc h)
 
 -- the first place at which a test holds: where it is below n the test holds there, it is n at most, and no later than any place at which
 -- the test holds

@@ -10,19 +10,19 @@ use Rattle.process.specs.Ways.{Among}
 use Rattle.process.specs.Pairing.{Rising}
 use Rattle.model.specs.View.{View, speed_at, energy_at, speeds_of, on_sheet, energy_of, greatest_energy, M}
 use Rattle.model.specs.Tests.{first_place}
-use Rattle.model.proofs.Tests.{anywhere_at, anywhere_one, greatest_at, greatest_upto, length-listed, get_or-listed, first_holds, first_upto}
+use Rattle.model.proofs.Tests.{anywhere_at, anywhere_one, greatest_at, greatest_upto, length_listed, get_or_listed, first_holds, first_upto}
 
 -- the sheet's speeds as a list
 
 -- the list has as many speeds as the sheet
 pub length_speeds : (s : View) → length (speeds_of s) ≡ s.speed_count
 unfolding speeds_of
-length_speeds s = length-listed (speed_at s) s.speed_count
+length_speeds s = length_listed (speed_at s) s.speed_count
 
 -- at each place of the list stands the speed of the sheet
 pub at_speeds : (s : View) (j : ℕ) → j < s.speed_count → get_or (speeds_of s) j 0 ≡ speed_at s j
 unfolding speeds_of
-at_speeds s j h = get_or-listed (speed_at s) s.speed_count j 0 h
+at_speeds s j h = get_or_listed (speed_at s) s.speed_count j 0 h
 
 -- each speed is greater than the one before it
 abbrev pub Climbs : View → Type 0

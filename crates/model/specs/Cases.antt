@@ -1,5 +1,5 @@
--- The cases of document 01 that are marked P, those of the requests, and more cases for what is easy to get wrong. `Holds` gives each kind of case its meaning in
--- the definitions; that all of them hold is one theorem, proofs/Cases.antt.
+-- The cases of document 01 that are marked P, those of the requests, and more cases for what is easy to get wrong. `Holds` gives each kind
+-- of case its meaning in the definitions; that all of them hold is one theorem, proofs/Cases.antt.
 use Rattle.std.specs.Prelude.{ℕ, ◌+◌, ◌<◌, ◌≡◌, Bool, true, false, List, [], ◌∷◌, ◌++◌, length, get_or, take, replicate, set}
 use Rattle.std.proofs.Math.Option.{Option, none, some}
 use Rattle.model.specs.Bytes.{code, sheet_bytes, write}
@@ -146,7 +146,7 @@ upto6 = upto5 ++ (at 6 0 ∷ [])
 abbrev pub none64 : ℕ
 none64 = 18446744073709551615
 
--- what `plan` leaves and answers for the two sheets; the theorems over its contract are plan-of-A and plan-of-hopeless of demands
+-- what `plan` leaves and answers for the two sheets; the theorems over its contract are plan_of_A and plan_of_hopeless of demands
 
 -- 01's values of both slots, the plan bytes of its listing, and the header's numbers
 pub record IsPlanOfA (values bytes : List ℕ) (answer : PlanAnswer) : Type 0 where
@@ -501,8 +501,8 @@ rule_A = 0 ∷ 1 ∷ 1 ∷ 2 ∷ 2 ∷ 1 ∷ 1 ∷ 2 ∷ 2 ∷ 2 ∷ 2 ∷ 2 ∷
 abbrev pub prices_A0 : List ℕ
 prices_A0 = 2 ∷ 6 ∷ 14 ∷ 26 ∷ 32 ∷ 6 ∷ 14 ∷ 26 ∷ 32 ∷ 18 ∷ 26 ∷ 32 ∷ []
 
--- what `rule` leaves and answers for sheet A, and `price` of what it left; the theorems over their contracts are rule-of-A and
--- price-of-rule-of-A of demands
+-- what `rule` leaves and answers for sheet A, and `price` of what it left; the theorems over their contracts are rule_of_A and
+-- price_of_rule_of_A of demands
 
 pub record IsRuleOfA (bytes : List ℕ) (answer : RuleAnswer) : Type 0 where
   pub slot_0 : (i : ℕ) → i < 12 → get_or bytes i 0 ≡ get_or rule_A i 0

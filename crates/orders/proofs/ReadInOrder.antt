@@ -16,7 +16,7 @@ use Rattle.model.specs.Tests.{check, ◌then◌, line, ◌⨾◌, first_of, in_o
 use Rattle.model.specs.declared.Job.{Job}
 use Rattle.model.specs.declared.Speed.{Speed}
 use Rattle.laws.proofs.Readers.{Positive, number_positive, tested, headed, shift}
-use Rattle.model.proofs.Tests.{length-listed, get_or-listed, then_then, then_nothing, in_order_front, in_order_same}
+use Rattle.model.proofs.Tests.{length_listed, get_or_listed, then_then, then_nothing, in_order_front, in_order_same}
 use Rattle.orders.specs.Numbers.{value_of, next_of, place_of_number, field_of, speed_in, job_in, sheet_in, end_of, end_line, stands, is_last, whole, shortest, reading, read_lines}
 
 -- one number
@@ -225,10 +225,10 @@ jobs_give bytes D n m =
 speed_same : (bytes : List ℕ) (n j : ℕ) → j < n →
     number_of_speed bytes j (previous zero_speed (speed_in bytes) j) (speed_in bytes j) ≡
     number_of_speed bytes j (get_or (listed (speed_in bytes) n) (pred j) zero_speed) (get_or (listed (speed_in bytes) n) j zero_speed)
-speed_same bytes n zero h = rw (get_or-listed (speed_in bytes) n 0 zero_speed h)
+speed_same bytes n zero h = rw (get_or_listed (speed_in bytes) n 0 zero_speed h)
 speed_same bytes n (suc j) h =
-    let before = get_or-listed (speed_in bytes) n j zero_speed (omega arith) in
-    rw (before, get_or-listed (speed_in bytes) n (suc j) zero_speed h)
+    let before = get_or_listed (speed_in bytes) n j zero_speed (omega arith) in
+    rw (before, get_or_listed (speed_in bytes) n (suc j) zero_speed h)
 
 -- a whole sheet: what is read after D, after the speeds, after T and after the jobs
 
@@ -275,7 +275,7 @@ module _ (bytes : List ℕ) where
       let m = field_of bytes (suc (speed_field n)) in
       let first : job_field n 0 ≡ suc (suc (speed_field n)) = omega arith in
       let same = in_order_same _ (λ i. number_of_job bytes D (job_field n i) (get_or (listed (job_in bytes n) m) i zero_job)) m
-      (λ i h. ap (number_of_job bytes D (job_field n i)) (sym (get_or-listed (job_in bytes n) m i zero_job h))) in
+      (λ i h. ap (number_of_job bytes D (job_field n i)) (sym (get_or_listed (job_in bytes n) m i zero_job h))) in
       let jobs =
       subst (λ (k : ℕ). Gives (read_jobs D m bytes (place_of_number bytes (job_field n 0))) k (listed (job_in bytes n) m) (end_of bytes)) same
       (jobs_give bytes D n m) in
@@ -304,8 +304,8 @@ module _ (bytes : List ℕ) where
   counts_same =
       let n = field_of bytes 1 in
       let s = sheet_in bytes in
-      let speeds = length-listed (speed_in bytes) n in
-      let jobs = length-listed (job_in bytes n) (field_of bytes (suc (speed_field n))) in
+      let speeds = length_listed (speed_in bytes) n in
+      let jobs = length_listed (job_in bytes n) (field_of bytes (suc (speed_field n))) in
       λ i. record {
         bound = s.bound;
         speed_count = speeds i;

@@ -12,9 +12,9 @@ use Rattle.bench_plan.specs.Planned.{LeavesRead, IsPlanned}
 use Rattle.bench_plan.proofs.bench_plan.Goals as goal
 
 -- the bytes are refused
-refused-read : (values plan : List ℕ) {bytes : List ℕ} {number : ℕ} {sheet : Sheet} → IsRead bytes number sheet → (number ≡ 0 → ⊥) →
+refused_read : (values plan : List ℕ) {bytes : List ℕ} {number : ℕ} {sheet : Sheet} → IsRead bytes number sheet → (number ≡ 0 → ⊥) →
     IsPlanned bytes values plan values plan number
-refused-read values plan {bytes} {number} is some =
+refused_read values plan {bytes} {number} is some =
     record {
       answer = none-with number;
       number_is = refl;
@@ -30,10 +30,10 @@ refused-read values plan {bytes} {number} is some =
     go (suc n) h = record { values_same = refl; plan_same = refl; answer = refl }
 
 -- they are read, and the sheet is planned
-planned-read : {bytes values₀ plan₀ values plan : List ℕ} {number : ℕ} {sheet : Sheet} (answer : PlanAnswer) → IsRead bytes number sheet →
+planned_read : {bytes values₀ plan₀ values plan : List ℕ} {number : ℕ} {sheet : Sheet} (answer : PlanAnswer) → IsRead bytes number sheet →
     number ≡ 0 → Leaves narrow (view_of sheet) values₀ plan₀ values plan answer →
     IsPlanned bytes values₀ plan₀ values plan answer.number
-planned-read {bytes} {values₀} {plan₀} {values} {plan} answer is none left =
+planned_read {bytes} {values₀} {plan₀} {values} {plan} answer is none left =
     record {
       answer = answer;
       number_is = refl;
@@ -42,7 +42,7 @@ planned-read {bytes} {values₀} {plan₀} {values} {plan} answer is none left =
     }
 
 pub returns-then-read-ne0 : goal.returns-then-read-ne0
-returns-then-read-ne0 c = refused-read _ _ c.read-read.ensures c.if-read-ne0.true
+returns-then-read-ne0 c = refused_read _ _ c.read-read.ensures c.if-read-ne0.true
 
 pub returns : goal.returns
-returns c = planned-read _ c.read-read.ensures c.if-read-ne0.false c.plan-answer.ensures
+returns c = planned_read _ c.read-read.ensures c.if-read-ne0.false c.plan-answer.ensures

@@ -20,23 +20,23 @@ passed : (c : Else-number-ne0) → row_refusal (sheet c) (length c.args.plan.now
 passed c = sym c.row_refusal-number.ensures ∙ c.if-number-ne0.false
 
 -- so that the sheet is accepted
-sheet-right : (c : Else-number-ne0) → sheet_refusal value_limit (sheet c) ≡ 0
-sheet-right c = (row_accepted (sheet c) _ (passed c)).0
+sheet_right : (c : Else-number-ne0) → sheet_refusal value_limit (sheet c) ≡ 0
+sheet_right c = (row_accepted (sheet c) _ (passed c)).0
 
 pub sizes_of-sizes-requires : goal.sizes_of-sizes-requires
 sizes_of-sizes-requires c =
-    (c.table-counts.ensures, fields_right value_limit (sheet (goal.at.sizes_of-sizes-requires c).Else-number-ne0) (sheet-right (goal.at.sizes_of-sizes-requires c).Else-number-ne0))
+    (c.table-counts.ensures, fields_right value_limit (sheet (goal.at.sizes_of-sizes-requires c).Else-number-ne0) (sheet_right (goal.at.sizes_of-sizes-requires c).Else-number-ne0))
 
 pub fill-requires : goal.fill-requires
 fill-requires c = (
   c.table-counts.ensures,
-  record { accepted = sheet-right (goal.at.fill-requires c).Else-number-ne0; sized = c.sizes_of-sizes.ensures },
+  record { accepted = sheet_right (goal.at.fill-requires c).Else-number-ne0; sized = c.sizes_of-sizes.ensures },
   (row_accepted (sheet (goal.at.fill-requires c).Else-number-ne0) _ (passed (goal.at.fill-requires c).Else-number-ne0)).1,
 )
 
 pub overflow_cast-result : goal.overflow_cast-result
 overflow_cast-result c =
-    omega (arith, c.sizes_of-sizes.ensures.queues_is, (accepted (sheet (goal.at.overflow_cast-result c).Else-number-ne0) (sheet-right (goal.at.overflow_cast-result c).Else-number-ne0)).queues_high)
+    omega (arith, c.sizes_of-sizes.ensures.queues_is, (accepted (sheet (goal.at.overflow_cast-result c).Else-number-ne0) (sheet_right (goal.at.overflow_cast-result c).Else-number-ne0)).queues_high)
 
 pub returns : goal.returns
 returns c =

@@ -19,8 +19,8 @@ abbrev sheet : Start → View
 sheet c = view_of c.args.sheet
 
 -- it is accepted
-sheet-right : (c : Start) → Accepted value_limit (sheet c)
-sheet-right c = accepted (sheet c) c.requires.1.accepted
+sheet_right : (c : Start) → Accepted value_limit (sheet c)
+sheet_right c = accepted (sheet c) c.requires.1.accepted
 
 -- the rows end after T times N bytes
 end_is : (c : After-place-end) → c.place-end.result ≡ plan_needed (view_of c.args.sheet)
@@ -39,15 +39,15 @@ room c = omega (arith, c.loop-to-test.true, (let fact : c.place-end.result ≡ p
 
 pub place-end-requires : goal.place-end-requires
 place-end-requires c = (
-  omega (arith, c.requires.1.sized.queues_is, (sheet-right (goal.at.place-end-requires c).Start).queues_high),
-  omega (arith, (sheet-right (goal.at.place-end-requires c).Start).ranged.horizon_high),
+  omega (arith, c.requires.1.sized.queues_is, (sheet_right (goal.at.place-end-requires c).Start).queues_high),
+  omega (arith, (sheet_right (goal.at.place-end-requires c).Start).ranged.horizon_high),
   omega arith,
 )
 
 pub loop-to-init : goal.loop-to-init
 loop-to-init c = (
   le_refl _,
-  omega (arith, end_is (goal.at.loop-to-init c).After-place-end, c.requires.1.sized.queues_is, first_within (sheet (goal.at.loop-to-init c).Start) (sheet-right (goal.at.loop-to-init c).Start).ranged),
+  omega (arith, end_is (goal.at.loop-to-init c).After-place-end, c.requires.1.sized.queues_is, first_within (sheet (goal.at.loop-to-init c).Start) (sheet_right (goal.at.loop-to-init c).Start).ranged),
   copied_none _,
 )
 

@@ -36,12 +36,12 @@ fields c =
     fields_right value_limit s (row_accepted s _ (passed c)).0
 
 -- behind its tests none of them fails, and the speed is the plan's
-ended-zero : (c : Else-ended-ne0) →
+ended_zero : (c : Else-ended-ne0) →
     let a = c.args in
     let s = view_of a.sheet in
     let x = state_of a.self in
     (model.ending_refusal s a.plan.now x ≡ 0) × (c.ending-ended.result.speed ≡ model.plan_byte s a.plan.now x)
-ended-zero c =
+ended_zero c =
     let a = c.args in
     let s = view_of a.sheet in
     let x = state_of a.self in
@@ -54,12 +54,12 @@ entry : (c : Else-not-is_entry) →
 entry c = passed_by c.is_entry.ensures c.if-not-is_entry.false
 
 -- it is the one that the plan's speed leads to
-is-moved : (c : After-moved-outcome) →
+is_moved : (c : After-moved-outcome) →
     let a = c.args in
     let s = view_of a.sheet in
     let x = state_of a.self in
     IsMoved s (model.moved s x (model.plan_byte s a.plan.now x) a.size a.deadline) c.moved-outcome.result.number c.moved-outcome.result.state
-is-moved c =
+is_moved c =
     let a = c.args in
     let s = view_of a.sheet in
     subst (λ (speed : ℕ). IsMoved s (model.moved s (state_of a.self) speed a.size a.deadline) c.moved-outcome.result.number c.moved-outcome.result.state)
@@ -77,14 +77,14 @@ next_zero c =
     (sym is.number_is ∙ c.if-outcome-ne0.false, is.state_is c.if-outcome-ne0.false)
 
 -- what was told of it
-begins-told : (c : After-beginning-begun) →
+begins_told : (c : After-beginning-begun) →
     let a = c.args in
     let s = view_of a.sheet in
     let x = state_of a.self in
     let next = model.moved s x (model.plan_byte s a.plan.now x) a.size a.deadline in
     (model.advance_refusal s a.plan.now x a.size a.deadline ≡ c.beginning-begun.result.number) ×
     (c.beginning-begun.result.number ≡ 0 → c.beginning-begun.result.speed ≡ model.speed_now s a.plan.now next)
-begins-told c =
+begins_told c =
     let a = c.args in
     let s = view_of a.sheet in
     let x = state_of a.self in
@@ -126,7 +126,7 @@ returns-then-not-is_entry c =
     let s = view_of a.sheet in
     let x = state_of a.self in
     advance_refused s a.plan.now x a.size a.deadline
-    (advance_refusal_15 s a.plan.now x a.size a.deadline (ended-zero (goal.at.returns-then-not-is_entry c).Else-ended-ne0).0
+    (advance_refusal_15 s a.plan.now x a.size a.deadline (ended_zero (goal.at.returns-then-not-is_entry c).Else-ended-ne0).0
     (failed_by c.is_entry.ensures c.if-not-is_entry.true)) (λ e. omega arith) c.refused-then-not-is_entry.ensures refl
 
 pub moved-outcome-requires : goal.moved-outcome-requires
@@ -134,11 +134,11 @@ moved-outcome-requires c =
     let a = c.args in
     let s = view_of a.sheet in
     let x = state_of a.self in
-    let right = ending_accepted s a.plan.now x (ended-zero (goal.at.moved-outcome-requires c).Else-ended-ne0).0 in (
+    let right = ending_accepted s a.plan.now x (ended_zero (goal.at.moved-outcome-requires c).Else-ended-ne0).0 in (
       fields (goal.at.moved-outcome-requires c).Else-number-ne0,
       c.sizes_of-sizes.ensures,
       right.1,
-      subst (λ (speed : ℕ). T (on_sheet s speed)) (sym (ended-zero (goal.at.moved-outcome-requires c).Else-ended-ne0).1)
+      subst (λ (speed : ℕ). T (on_sheet s speed)) (sym (ended_zero (goal.at.moved-outcome-requires c).Else-ended-ne0).1)
           (byte_on_sheet s x (model.plan_byte s a.plan.now x) right.3),
       entry_small a.sheet a.size a.deadline (fields (goal.at.moved-outcome-requires c).Else-number-ne0) (subst T (sym (entry (goal.at.moved-outcome-requires c).Else-not-is_entry)) tt),
     )
@@ -149,8 +149,8 @@ returns-then-outcome-ne0 c =
     let s = view_of a.sheet in
     let x = state_of a.self in
     advance_refused s a.plan.now x a.size a.deadline
-    (advance_refusal_next s a.plan.now x a.size a.deadline (ended-zero (goal.at.returns-then-outcome-ne0 c).Else-ended-ne0).0 (entry (goal.at.returns-then-outcome-ne0 c).Else-not-is_entry)
-    (sym (is-moved (goal.at.returns-then-outcome-ne0 c).After-moved-outcome).number_is) c.if-outcome-ne0.true) c.if-outcome-ne0.true c.refused-then-outcome-ne0.ensures refl
+    (advance_refusal_next s a.plan.now x a.size a.deadline (ended_zero (goal.at.returns-then-outcome-ne0 c).Else-ended-ne0).0 (entry (goal.at.returns-then-outcome-ne0 c).Else-not-is_entry)
+    (sym (is_moved (goal.at.returns-then-outcome-ne0 c).After-moved-outcome).number_is) c.if-outcome-ne0.true) c.if-outcome-ne0.true c.refused-then-outcome-ne0.ensures refl
 
 pub beginning-begun-requires : goal.beginning-begun-requires
 beginning-begun-requires c =
@@ -163,17 +163,17 @@ beginning-begun-requires c =
     let slot_is = ap (λ (y : model.State). y.slot) (state_is ∙ moved_by s x byte a.size a.deadline) in (
       record { holds = c.table-counts.ensures; room = passed (goal.at.beginning-begun-requires c).Else-number-ne0; sized = c.sizes_of-sizes.ensures },
       subst (λ (y : model.State). T (bearable (M s) (model.queue_of s y))) (sym state_is) (next_bearable s next zero),
-      omega (arith, slot_is, (ending_accepted s a.plan.now x (ended-zero (goal.at.beginning-begun-requires c).Else-ended-ne0).0).2),
+      omega (arith, slot_is, (ending_accepted s a.plan.now x (ended_zero (goal.at.beginning-begun-requires c).Else-ended-ne0).0).2),
     )
 
 pub returns-then-begun-ne0 : goal.returns-then-begun-ne0
 returns-then-begun-ne0 c =
     let a = c.args in
-    advance_refused (view_of a.sheet) a.plan.now (state_of a.self) a.size a.deadline (begins-told (goal.at.returns-then-begun-ne0 c).After-beginning-begun).0
+    advance_refused (view_of a.sheet) a.plan.now (state_of a.self) a.size a.deadline (begins_told (goal.at.returns-then-begun-ne0 c).After-beginning-begun).0
     c.if-begun-ne0.true c.refused-then-begun-ne0.ensures refl
 
 pub returns : goal.returns
 returns c =
     let a = c.args in
-    stepped_done (advance_by (view_of a.sheet) a.plan.now (state_of a.self) a.size a.deadline ((begins-told (goal.at.returns c).After-beginning-begun).0 ∙ c.if-begun-ne0.false))
-    (next_zero (goal.at.returns c).Else-outcome-ne0).1 ((begins-told (goal.at.returns c).After-beginning-begun).1 c.if-begun-ne0.false)
+    stepped_done (advance_by (view_of a.sheet) a.plan.now (state_of a.self) a.size a.deadline ((begins_told (goal.at.returns c).After-beginning-begun).0 ∙ c.if-begun-ne0.false))
+    (next_zero (goal.at.returns c).Else-outcome-ne0).1 ((begins_told (goal.at.returns c).After-beginning-begun).1 c.if-begun-ne0.false)
