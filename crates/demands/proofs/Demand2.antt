@@ -22,7 +22,7 @@ use Rattle.model.specs.Width.{narrow, value_in}
 use Rattle.model.proofs.Queues.{number_below, number_place}
 use Rattle.laws.proofs.Rooms.{plan_fits}
 use Rattle.planner.specs.declared.calls.PlanAnswer.{PlanAnswer}
-use Rattle.demands.specs.Calls.{Plans, answered}
+use Rattle.demands.specs.Calls.{Plans, IsUnrefused, answered}
 use Rattle.demands.proofs.Determined.{plan_is}
 
 -- when a plan is not refused
@@ -64,7 +64,7 @@ module _ {sheet : Sheet} {values₀ plan₀ values bytes : List ℕ} {a : PlanAn
 -- a plan that is not refused, at a bearable queue
 
 module _ {sheet : Sheet} {values₀ plan₀ values bytes : List ℕ} {a : PlanAnswer} (call : Plans sheet values₀ plan₀ a values bytes)
-    (planned : plan_refusal narrow (view_of sheet) (length values₀) (length plan₀) ≡ 0) (w : Queue)
+    (planned : IsUnrefused sheet values₀ plan₀) (w : Queue)
     (is_bearable : T (bearable (M (view_of sheet)) w)) (positions : length w ≡ (view_of sheet).bound) where
   -- its number is below N
   below : number_of (M (view_of sheet)) w < N (view_of sheet)

@@ -2,7 +2,7 @@
 -- some order of service beside them, miss no job's deadline and keep every pool finishable, none exactly where there is no such way
 -- (`value_in_time`, `none_in_time`), the byte the slowest speed that begins a least one (`byte_in_time`); and a run of the stepper with that
 -- plan, the jobs served earliest deadline first, is in time for every job (`run_in_time`). All of it follows from what is proved of totals.
-use Prim.Native.Nat.{ℕ, ◌+◌, ◌-◌, ◌≤◌, ◌<◌}
+use Prim.Native.Nat.{ℕ, ◌-◌, ◌≤◌, ◌<◌}
 use mathlib.Core.Path.{◌≡◌, sym, ap, ◌∙◌, subst}
 use mathlib.Core.List.{List}
 use mathlib.Core.Logic.{◌↔◌}
@@ -27,14 +27,14 @@ use Rattle.stepper.specs.Calls.{state_of}
 use Rattle.stepper.specs.declared.state.Stepped.{Stepped}
 use Rattle.jobs.specs.InTime.{InTime, IsValueOfPool, IsByteOfPool}
 use Rattle.jobs.specs.Pool.{Pool, due_within, queue_of_pool, NoneLate, SlotsUpto}
-use Rattle.jobs.specs.Runs.{earliest_run, Finishable}
+use Rattle.jobs.specs.Runs.{earliest_run}
 use Rattle.jobs.proofs.Finishable.{bearable_finishable}
 use Rattle.jobs.proofs.Given.{misses_none_done}
 use Rattle.jobs.proofs.Runs.{QueuesAlong, along_earliest, ends_on_time}
 use Rattle.jobs.proofs.Ways.{good_in_time, value_of_pool, byte_of_pool}
 use Rattle.demands.specs.Calls.{Plans}
-use Rattle.demands.specs.InTime.{slot_at, first_slots, pool_now, InTimeAfter}
-use Rattle.demands.specs.Runs.{queue_of_state, GoesOn, state_after, told_after, queue_after, Run, NeverRefused}
+use Rattle.demands.specs.InTime.{CanBeFinished, slot_at, first_slots, pool_now, InTimeAfter}
+use Rattle.demands.specs.Runs.{queue_of_state, GoesOn, state_after, told_after, queue_after, Run, AreEntries, EndsByHorizon, NeverRefused}
 use Rattle.demands.proofs.Demand2.{value_right, byte_right_lem, none_right}
 use Rattle.demands.proofs.Determined.{advance_is}
 use Rattle.demands.proofs.Stepping.{never_refused}
@@ -51,7 +51,7 @@ module _ {sheet : Sheet} {values₀ plan₀ values bytes : List ℕ} {a : PlanAn
   -- jobs that wait, none of them late or with more than D slots left
   module _ (p : Pool) (slots : SlotsUpto s.bound p) (on_time : NoneLate p) where
     -- which can be finished
-    module _ (finishable : Finishable (M s) s.bound p) where
+    module _ (finishable : CanBeFinished sheet p) where
       is_bearable : T (bearable (M s) (queue_of_pool s.bound p))
       is_bearable = (bearable_finishable s.bound ranged.bound_low p slots on_time (M s)).1 finishable
 
@@ -82,8 +82,8 @@ module _ {sheet : Sheet} {values₀ plan₀ values bytes : List ℕ} {a : PlanAn
 
     -- a run from their queue, as in Stepping.antt
     module _ {from : Stepped} {arrivals : List ℕ} (run : Run sheet bytes from arrivals)
-        (short : from.state.slot + length arrivals ≤ s.horizon)
-        (entries : (k : ℕ) → k < length arrivals → get_or arrivals k 0 < s.job_count) (goes : GoesOn sheet bytes from)
+        (short : EndsByHorizon sheet from arrivals)
+        (entries : AreEntries sheet arrivals) (goes : GoesOn sheet bytes from)
         (their-queue : queue_of_pool s.bound p ≡ queue_of_state sheet from.state) where
       whole : NeverRefused sheet bytes run
       whole = never_refused call planned run short entries goes

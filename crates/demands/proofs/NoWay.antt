@@ -28,7 +28,7 @@ use Rattle.stepper.specs.Calls.{state_of}
 use Rattle.stepper.specs.declared.state.State.{State}
 use Rattle.stepper.specs.declared.state.Stepped.{Stepped}
 use Rattle.demands.specs.Calls.{Plans, Starts, Advances}
-use Rattle.demands.specs.Runs.{queue_of_state, at_start}
+use Rattle.demands.specs.Runs.{queue_of_state, HasNoWay, at_start}
 use Rattle.demands.proofs.Demand2.{byte_right_lem}
 use Rattle.demands.proofs.Determined.{state_same, start_is, advance_is}
 use Rattle.demands.proofs.Stepping.{has_room}
@@ -52,7 +52,7 @@ module _ {sheet : Sheet} {values₀ plan₀ values bytes : List ℕ} {a : PlanAn
 
   -- a state whose queue is right, and no way from its slot and queue is good
   module _ (x : State) (six : length x.queue ≡ positions) (right : T (model.queue_right s (state_of x)))
-      (no_way : (σ : Way) → Good (process_of s) s.job_count (s.horizon - x.slot) (queue_of_state sheet x) σ → ⊥) where
+      (no_way : HasNoWay sheet x) where
     abbrev w : Queue
     w = queue_of_state sheet x
 
@@ -94,7 +94,7 @@ module _ {sheet : Sheet} {values₀ plan₀ values bytes : List ℕ} {a : PlanAn
 
   -- an advance, whatever arrives, hands back the state that it got
   pub advance_is_16 : (x : State) → length x.queue ≡ positions → T (model.state_right s (state_of x)) →
-      ((σ : Way) → Good (process_of s) s.job_count (s.horizon - x.slot) (queue_of_state sheet x) σ → ⊥) →
+      HasNoWay sheet x →
       {size deadline : ℕ} {b : Stepped} → Advances x sheet bytes size deadline b →
       (b.number ≡ 16) × (b.state ≡ x) × (b.speed ≡ 0)
   advance_is_16 x six right no_way {size} {deadline} advanced =

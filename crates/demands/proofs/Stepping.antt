@@ -31,7 +31,7 @@ use Rattle.stepper.specs.Calls.{state_of}
 use Rattle.stepper.specs.declared.state.State.{State}
 use Rattle.stepper.specs.declared.state.Stepped.{Stepped}
 use Rattle.demands.specs.Calls.{Plans, Starts, Advances}
-use Rattle.demands.specs.Runs.{speed_of_state, Begins, GoesOn, answer_after, state_after, told_after, Run, Stands, Steps, NeverRefused, at_start, StartedRun, StartedNeverRefused}
+use Rattle.demands.specs.Runs.{speed_of_state, Begins, GoesOn, answer_after, state_after, told_after, Run, AreEntries, EndsByHorizon, Stands, Steps, NeverRefused, at_start, StartedRun, StartedNeverRefused}
 use Rattle.demands.proofs.Demand2.{planned_filled, byte_right_lem}
 use Rattle.demands.proofs.Determined.{state_same, start_is, advance_is}
 
@@ -72,8 +72,8 @@ module _ {sheet : Sheet} {values₀ plan₀ values bytes : List ℕ} {a : PlanAn
 
   -- a run from an answer that it may go on from, along a list of the sheet's entries that ends at the horizon or before it
   module _ {from : Stepped} {arrivals : List ℕ} (run : Run sheet bytes from arrivals)
-      (short : from.state.slot + length arrivals ≤ s.horizon)
-      (entries : (k : ℕ) → k < length arrivals → get_or arrivals k 0 < s.job_count) (begins : GoesOn sheet bytes from) where
+      (short : EndsByHorizon sheet from arrivals)
+      (entries : AreEntries sheet arrivals) (begins : GoesOn sheet bytes from) where
     -- the state after k slots, as the model says it, and the speed told
     abbrev state : ℕ → model.State
     state k = state_of (state_after from run.stepped k)

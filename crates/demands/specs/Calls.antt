@@ -5,13 +5,14 @@ use Rattle.std.proofs.Math.Option.{Option}
 use borrow.Fn.Kinds.{Dens, res_t, ended_of}
 use contract.Lifetimes.{Lfts}
 use denote.Triple.Clauses.{AtExit}
-use Rattle.model.specs.View.{View}
-use Rattle.model.specs.Plan.{IsValueAt}
+use Rattle.model.specs.View.{View, view_of}
+use Rattle.model.specs.Plan.{IsValueAt, plan_refusal}
 use Rattle.model.specs.Plan as model-plan
 use Rattle.model.specs.Pricing.{IsPriceAt}
 use Rattle.model.specs.Pricing as model-pricing
 use Rattle.model.specs.Queue.{empty_queue}
 use Rattle.model.specs.declared.Sheet.{Sheet}
+use Rattle.model.specs.Width.{narrow}
 use Rattle.reader.specs.declared.ReadSheet.{ReadSheet}
 use Rattle.writer.specs.declared.Written.{Written}
 use Rattle.reader.proofs.read.Kinds as read-kinds
@@ -73,6 +74,10 @@ pub record Plans (sheet : Sheet) (values₀ plan₀ : List ℕ) (answer : PlanAn
   pub values_after : at_exit.1.0.now ≡ values
   pub plan_after : at_exit.1.1.0.now ≡ bytes
   pub contract : plan.Post lifetimes lent answer at_exit
+
+-- `plan` is not refused, where it is lent these: 4 to 11 all pass
+abbrev pub IsUnrefused : Sheet → (values₀ plan₀ : List ℕ) → Type 0
+IsUnrefused sheet values₀ plan₀ = plan_refusal narrow (view_of sheet) (length values₀) (length plan₀) ≡ 0
 
 -- what a plan answers, as the model says it
 abbrev pub answered : PlanAnswer → model-plan.PlanAnswer

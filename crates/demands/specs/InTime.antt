@@ -11,6 +11,10 @@ use Rattle.jobs.specs.Runs.{Slot, pool_after, earliest_run, EarliestFirst, Finis
 use Rattle.stepper.specs.declared.state.Stepped.{Stepped}
 use Rattle.demands.specs.Runs.{told_after, queue_after, Run}
 
+-- jobs that wait and can all be finished in time, at the fastest speed
+abbrev pub CanBeFinished : Sheet → Pool → Type 0
+CanBeFinished sheet p = Finishable (M (view_of sheet)) (view_of sheet).bound p
+
 module _ (sheet : Sheet) (bytes : List ℕ) {from : Stepped} {arrivals : List ℕ} (run : Run sheet bytes from arrivals) where
   -- the slot that follows k slots: the speed told, and then the arrival
   abbrev pub slot_at : ℕ → Slot

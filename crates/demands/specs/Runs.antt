@@ -1,10 +1,11 @@
 -- A run of the stepper, and what demand 2 asks of it: "Stepping with that plan, from a queue that has one, with arrivals from the sheet, is
 -- never refused before the horizon"; request [1]: "Demand 2 reads over the merged calls". A run goes on from an answer, at whatever slot: one
 -- that was saved, or that of a start, which is at slot 0.
-use Rattle.std.specs.Prelude.{ℕ, zero, suc, ◌+◌, ◌*◌, ◌≤◌, ◌<◌, ◌≡◌, List, T, length, get_or}
+use Rattle.std.specs.Prelude.{ℕ, zero, suc, ◌+◌, ◌*◌, ◌-◌, ◌≤◌, ◌<◌, ◌≡◌, List, T, length, get_or}
 use Rattle.process.specs.Sums.{sum}
+use Rattle.process.specs.Ways.{Way, Good}
 use Rattle.model.specs.View.{view_of, size_at, deadline_at, energy_of, greatest_energy, M}
-use Rattle.model.specs.Plan.{HasValue, no_speed, byte_of_queue}
+use Rattle.model.specs.Plan.{HasValue, no_speed, byte_of_queue, process_of}
 use Rattle.model.specs.Queue.{Queue, positions, unused_zero, bearable, one_slot}
 use Rattle.model.specs.Stepper.{queue_of, speed_now}
 use Rattle.model.specs.declared.Sheet.{Sheet}
@@ -20,6 +21,11 @@ queue_of_state sheet x = queue_of (view_of sheet) (state_of x)
 -- the speed of the slot that begins in a state, by the plan; 255 at the horizon
 abbrev pub speed_of_state : Sheet → List ℕ → State → ℕ
 speed_of_state sheet bytes x = speed_now (view_of sheet) bytes (state_of x)
+
+-- no way is good from a state's slot and queue
+abbrev pub HasNoWay : Sheet → State → Type 0
+HasNoWay sheet x =
+    (σ : Way) → Good (process_of (view_of sheet)) (view_of sheet).job_count ((view_of sheet).horizon - x.slot) (queue_of_state sheet x) σ → ⊥
 
 -- a state that a run may begin with: "a queue that has one", a value at the state's slot; and 13 finds nothing else wrong with it. That a
 -- queue stands in six places is ensured by the machine
@@ -53,6 +59,14 @@ pub record Run (sheet : Sheet) (bytes : List ℕ) (from : Stepped) (arrivals : L
   pub advances : (k : ℕ) → k < length arrivals →
       Advances (state_after from stepped k) sheet bytes
       (size_at (view_of sheet) (get_or arrivals k 0)) (deadline_at (view_of sheet) (get_or arrivals k 0)) (stepped k)
+
+-- "with arrivals from the sheet": each is the place of an entry
+abbrev pub AreEntries : Sheet → List ℕ → Type 0
+AreEntries sheet arrivals = (k : ℕ) → k < length arrivals → get_or arrivals k 0 < (view_of sheet).job_count
+
+-- "before the horizon": a run with so many arrivals, from an answer, ends at the horizon or before it
+abbrev pub EndsByHorizon : Sheet → Stepped → List ℕ → Type 0
+EndsByHorizon sheet from arrivals = from.state.slot + length arrivals ≤ (view_of sheet).horizon
 
 -- w(1) to w(D) after k slots
 abbrev pub queue_after : Sheet → Stepped → (ℕ → Stepped) → ℕ → Queue
