@@ -1,7 +1,7 @@
-// The constant continuation counts of document 01, and the one function that reads them.
+// The constant continuation counts of document 01, and the one method that reads them.
 //
-// Each function that names a constant builds it anew, and 9,408 bytes are too many for reading one count. So whoever needs counts asks for
-// the table once and lends it.
+// Each function that names a constant builds it anew, and 9,408 bytes are too many for reading one count. So whoever needs counts makes
+// `Counts` once and lends it.
 #![tactic(auto)]
 
 ghost use Rattle.std.specs.Prelude.{◌≡◌};
@@ -166,17 +166,23 @@ const COUNTS: [u32; 2352] = [
     0, 0,
 ];
 
-// The counts.
-pub fn table() -> [u32; 2352]
-    ensures { HoldsCounts result }
-{
-    COUNTS
+// The numbers of the constant, and the fact that they are the counts.
+#[derive(Clone, Copy)]
+pub struct Counts {
+    pub numbers: [u32; 2352],
+    pub ghost holds: { HoldsCounts numbers },
 }
 
-// How many continuations there are for this largest speed, so many positions left to fill and this slack.
-pub fn count(counts: &[u32; 2352], largest: u32, left: usize, slack: u32) -> usize
-    requires { HoldsCounts counts.now × InTable largest left slack }
-    ensures { result ≡ continuation_count largest left slack }
-{
-    counts[(largest as usize - 1) * 294 + left * 49 + slack as usize] as usize
+impl Counts {
+    pub fn new() -> Self {
+        Counts { numbers: COUNTS }
+    }
+
+    // How many continuations there are for this largest speed, so many positions left to fill and this slack.
+    pub fn count(&self, largest: u32, left: usize, slack: u32) -> usize
+        requires { InTable largest left slack }
+        ensures { result ≡ continuation_count largest left slack }
+    {
+        self.numbers[(largest as usize - 1) * 294 + left * 49 + slack as usize] as usize
+    }
 }

@@ -13,10 +13,10 @@ use Rattle.counts.specs.Counts.{InTable}
 use Rattle.counts.proofs.Bounds.{count_few, count_small}
 use Rattle.queues.specs.Order.{Ranges}
 
--- the sum of j counts of the table
-pub counts_small : (M r g n : ℕ) → ((j : ℕ) → j < n → InTable M r (g + j)) → (j : ℕ) → j ≤ n →
-    sum (λ i. continuation_count M r (g + i)) j ≤ j * 49 ^ 5
-counts_small M r g n needed j h = sum_upto j (49 ^ 5) (λ i l. count_small M r (g + i) (needed i (omega arith)))
+-- the sum of the counts of slacks that are in the table
+pub counts_small : (M r a b : ℕ) → ((g : ℕ) → a ≤ g → g < b → InTable M r g) →
+    sum (λ j. continuation_count M r (a + j)) (b - a) ≤ (b - a) * 49 ^ 5
+counts_small M r a b needed = sum_upto (b - a) (49 ^ 5) (λ j l. count_small M r (a + j) (needed (a + j) (omega arith) (omega arith)))
 
 -- N is at most 49 ^ 6
 pub queues_few : (M D : ℕ) → M ≤ 8 → D ≤ 6 → queue_count M D ≤ 49 ^ 6

@@ -3,7 +3,7 @@
 use Prim.Native.Nat.{ℕ, zero, suc, ◌+◌, ◌*◌, ◌-◌, ◌≤◌, ◌<◌}
 use mathlib.Core.Path.{◌≡◌, refl, sym, ◌∙◌}
 use mathlib.Core.List.{List, [], ◌∷◌, ◌++◌, map, append_assoc, append-nil}
-use native.Mathlib.Nat.{le_refl, mul-le-mul, mul-le-mul_right, not-suc-le-zero, le_of_suc-le-suc, suc-mul}
+use native.Mathlib.Nat.{le_refl, not-suc-le-zero, le_of_suc-le-suc, suc-mul}
 use native.Mathlib.Numerals.{add-one}
 use native.Mathlib.Omega.{arith}
 use lib.ListN.{length, get_or, take, set, replicate, length-set, length-map, get_or-append}
@@ -11,9 +11,7 @@ use lib.Seq.{take-suc-set, get_or-set_other, get_or-append-add}
 use Rattle.process.specs.Sums.{sum}
 use Rattle.model.specs.Queue.{Queue, places_of, each_total, continuations, bearable_queues, queue_count, continuation_count}
 use Rattle.model.proofs.Queues.{continuations_count, queue_count_lem, get_D_zeros}
-use Rattle.counts.specs.Counts.{InTable}
 use Rattle.queues.specs.Order.{Ranges, Leads, Follows, following}
-use Rattle.counts.proofs.Bounds.{wider}
 use Rattle.slot.proofs.Places.{places_in}
 
 -- the queue at a place of a list whose queues were each given one total more
@@ -47,16 +45,6 @@ pub record Searching (M r total₀ slack₀ place₀ total slack place : ℕ) : 
 pub search_begins : {M r t g p : ℕ} → Leads M (suc r) t g p → Searching M r t (g + M) p t (g + M) p
 unfolding continuation_count
 search_begins {t = t} l = record { same_queue = refl; same_sum = refl; total_low = le_refl t; place_low = l.place_low }
-
--- the slack that it has come to is in the table
-pub search_needed : {M r t g p t₁ g₁ p₁ : ℕ} → Leads M (suc r) t g p → Searching M r t (g + M) p t₁ g₁ p₁ → InTable M r g₁
-search_needed {M} {r} l s =
-    record {
-      speed_low = l.ranges.speed_low;
-      speed_high = l.ranges.speed_high;
-      left_high = omega (arith, l.ranges.bound_high);
-      slack_high = omega (arith, l.slack_high, s.same_sum, s.total_low, wider M r l.ranges.bound_high);
-    }
 
 -- it goes on where all queues with this total stand before the place, and then there is a larger total
 pub search_goes_on : {M r t₀ g₀ p₀ t g p : ℕ} (n : ℕ) → Searching M r t₀ g₀ p₀ t g p → n ≡ continuation_count M r g → n ≤ p →
@@ -107,20 +95,6 @@ fixing_begins M D number h =
       place_low = rw (all, ← queue_count_lem) h;
       six = refl;
       unused = λ i l. get_D_zeros [] 6 i;
-    }
-
--- the next total can be looked for
-pub fixing_leads : {M D number : ℕ} {places : List ℕ} {t g p u : ℕ} → Ranges M D → Fixing M D number places t g p u → u < D →
-    Leads M (suc (D - 1 - u)) t g p
-fixing_leads {M} {D} {g = g} {u = u} n f h =
-    let left : D - u ≡ suc (D - 1 - u) = omega arith in
-    let room : u ≤ 6 - suc (D - 1 - u) = omega (arith, n.bound_high) in
-    let few : u ≤ 6 = omega (arith, n.bound_high) in
-    record {
-      ranges = record { speed_low = n.speed_low; speed_high = n.speed_high; bound_high = omega (arith, n.bound_high) };
-      slack_high = omega (arith, f.same_sum, mul-le-mul_right M room);
-      total_high = omega (arith, f.same_sum, mul-le-mul few n.speed_high);
-      place_low = rw (← left) f.place_low;
     }
 
 -- one total more is fixed

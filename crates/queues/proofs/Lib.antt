@@ -1,4 +1,5 @@
 pub mod Bounds
+pub mod Ranges
 pub mod Numbering
 pub mod Finding
 pub mod RoundTrip

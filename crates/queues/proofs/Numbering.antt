@@ -13,11 +13,11 @@ use lib.ListN.{length, get_or, drop, length-drop}
 use lib.Seq.{drop-cons, drop-length, get_or-drop}
 use borrow.Author.Tests.{eq-eqb, ne_eqb}
 use Rattle.process.specs.Sums.{sum, same}
-use Rattle.process.proofs.Sums.{sum_more}
+use Rattle.process.proofs.Sums.{sum_same}
 use Rattle.model.specs.Queue.{Queue, total, queue_in, bearable, each_total, continuations, bearable_queues, queue_count, place_in, number_of, continuation_count}
 use Rattle.model.proofs.Queues.{GoesOn, bearable_at_lem, bearable_upto, continuations_count, continuations_in, place_found, number_below, queue_count_lem, length_in}
 use Rattle.counts.specs.Counts.{InTable}
-use Rattle.queues.specs.Order.{Ranges, Numbered, earlier_at}
+use Rattle.queues.specs.Order.{Numbered, earlier_at}
 use Rattle.queues.proofs.Bounds.{queues_few, in_table}
 use Rattle.slot.proofs.Places.{total_in}
 
@@ -108,11 +108,6 @@ number_sum M w t =
     let none : 0 * M - 0 ≡ 0 = omega arith in
     (rw none at (rest_sum M w t (length w) 0 (add-zero (length w)))) ∙ rw (drop-length, add-zero)
 
--- what comes before it at the first positions alone is no more than its number, and so below N
-pub sum_below : (M : ℕ) (w : Queue) → T (bearable M w) → (u : ℕ) → u ≤ length w → sum (earlier_at M w) u < queue_count M (length w)
-sum_below M w t u h =
-    omega (arith, number_below M w refl t, number_sum M w t, sum_more (earlier_at M w) u (length w) h)
-
 -- a queue that stands in the first D of six places
 
 module _ {M D : ℕ} {places : List ℕ} (n : Numbered M D places) (six : length places ≡ 6) where
@@ -121,8 +116,19 @@ module _ {M D : ℕ} {places : List ℕ} (n : Numbered M D places) (six : length
   long = length_in D places (omega (arith, n.ranges.bound_high))
 
   -- the sum over all positions is the number
-  pub number_whole : sum (earlier_at M (queue_in D places)) D ≡ number_of M (queue_in D places)
-  number_whole = rw (number_sum M (queue_in D places) n.is_bearable, long)
+  pub number_whole : sum (λ u. earlier_at M (queue_in D places) (0 + u)) (D - 0) ≡ number_of M (queue_in D places)
+  number_whole =
+      let all : D - 0 ≡ D = omega arith in
+      rw (number_sum M (queue_in D places) n.is_bearable, long, all) (sum_same D (λ u l. ap (earlier_at M (queue_in D places)) (zero-add u)))
+
+  -- which does not wrap
+  pub number_fits : number_of M (queue_in D places) ≤ 49 ^ 6
+  number_fits =
+      omega (
+        arith,
+        number_below M (queue_in D places) long n.is_bearable,
+        queues_few M D n.ranges.speed_high n.ranges.bound_high,
+      )
 
   -- one position of it
   module _ (u : ℕ) (h : u < D) where
@@ -134,30 +140,20 @@ module _ {M D : ℕ} {places : List ℕ} (n : Numbered M D places) (six : length
         let here = total_in D places (suc u) h in
         (omega (arith, at.0, total_in D places u (omega arith)), rw add-one (omega (arith, at.1)), mul-le-mul few n.ranges.speed_high)
 
-    -- the slacks of the queues with less there are in the table
-    pub position_needed : (j : ℕ) → j < get_or places u 0 - total places u → InTable M (D - 1 - u) ((u + 1) * M - get_or places u 0 + 1 + j)
-    position_needed j l =
-        let safe = position_safe in
-        in_table u (D - 1 - u) n.ranges (omega arith) (rw (← add-one u) (omega arith))
+    -- the slacks there are in the table
+    pub position_needed : (g : ℕ) → g ≤ (u + 1) * M → InTable M (D - 1 - u) g
+    position_needed g l = in_table u (D - 1 - u) n.ranges (omega arith) (rw (← add-one u) l)
 
-    -- and the sum of their counts is what comes before
+    -- and the sum of the counts of those above its own, up to that of w(u), is what comes before
     pub position_earlier : (b k : ℕ) → b ≡ total places u →
-        k ≡ sum (λ j. continuation_count M (D - 1 - u) ((u + 1) * M - get_or places u 0 + 1 + j)) (get_or places u 0 - b) →
+        k ≡ sum (λ j. continuation_count M (D - 1 - u) ((u + 1) * M - get_or places u 0 + 1 + j)) ((u + 1) * M - b + 1 - ((u + 1) * M - get_or places u 0 + 1)) →
         k ≡ earlier_at M (queue_in D places) u
     unfolding earlier_at
     position_earlier b k e d =
         let left : D - suc u ≡ D - 1 - u = omega arith in
-        d ∙ simp (long, total_in D places (suc u) h, total_in D places u (omega arith), left, e, add-one)
-
-    -- nor does the sum up to there wrap
-    pub position_fits : sum (earlier_at M (queue_in D places)) u + earlier_at M (queue_in D places) u ≤ 49 ^ 6
-    unfolding sum
-    position_fits =
-        omega (
-          arith,
-          rw long at (sum_below M (queue_in D places) n.is_bearable (suc u) (omega (arith, long))),
-          queues_few M D n.ranges.speed_high n.ranges.bound_high,
-        )
+        let safe = position_safe in
+        let many : (u + 1) * M - b + 1 - ((u + 1) * M - get_or places u 0 + 1) ≡ get_or places u 0 - b = omega arith in
+        d ∙ rw many (simp (long, total_in D places (suc u) h, total_in D places u (omega arith), left, e, add-one) refl)
 
 -- N
 
@@ -166,12 +162,11 @@ pub queues_none : (M D : ℕ) → D ≡ 0 → 1 ≡ queue_count M D
 unfolding continuation_count
 queues_none M D e = rw (e, queue_count_lem)
 
--- the slacks 0 to M at the first position are in the table
-pub queues_needed : {M D : ℕ} → Ranges M D → (D ≡ 0 → ⊥) → (j : ℕ) → j < M + 1 → InTable M (D - 1) (0 + j)
-queues_needed {D = D} n h j l = in_table 0 (D - 1) n (omega arith) (omega arith)
-
--- and N is the sum of their counts
-pub queues_counted : (M D : ℕ) → (D ≡ 0 → ⊥) → sum (λ j. continuation_count M (D - 1) (0 + j)) (M + 1) ≡ queue_count M D
+-- else N is the sum of the counts of the slacks 0 to M at the first position
+pub queues_counted : (M D : ℕ) → (D ≡ 0 → ⊥) → sum (λ j. continuation_count M (D - 1) (0 + j)) (M + 1 - 0) ≡ queue_count M D
 unfolding continuation_count
 queues_counted M zero h = absurd (h refl)
-queues_counted M (suc r) h = let left : suc r - 1 ≡ r = omega arith in simp (left, zero-add, add-one, queue_count_lem)
+queues_counted M (suc r) h =
+    let left : suc r - 1 ≡ r = omega arith in
+    let all : M + 1 - 0 ≡ suc M = omega arith in
+    simp (left, all, zero-add, queue_count_lem)

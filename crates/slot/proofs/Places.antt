@@ -1,26 +1,38 @@
 -- A queue and the six places that it stands in: the queue in the first D places, the places of a queue, the total in a place after a slot
--- and with an arrival, and the tests that go from place to place. The proofs of src/lib.rt stand on these laws; those that the model's
+-- and with an arrival, and the tests of every place. The proofs of src/lib.rt stand on these laws; those that the model's
 -- own laws need are in its proofs/Queues.antt.
-use Prim.Native.Nat.{ℕ, zero, suc, ◌+◌, ◌*◌, ◌-◌, min, ◌≤◌, ◌<◌}
+use Prim.Native.Nat.{ℕ, zero, suc, ◌+◌, ◌-◌, min, ◌≤◌, ◌<◌}
 use mathlib.Core.Path.{◌≡◌, refl, sym, ap, ◌∙◌}
 use mathlib.Core.Bool.{Bool, true, false, cond, ◌&&◌}
 use mathlib.Core.List.{List, [], ◌∷◌, ◌++◌}
+use native.Mathlib.Nat.{zero-add}
 use native.Mathlib.Numerals.{add-one}
 use native.Mathlib.Omega.{arith}
-use borrow.Author.Tests.{ltb-true, ltb-false, le-leb, lt-leb, ne_eqb}
-use lib.Dec.{leb, ltb}
-use lib.ListN.{length, get_or, replicate, length-take}
-use lib.Seq.{get_or-take, ext_get_or, take-take, take-append-le}
+use borrow.Author.Tests.{ltb-true, ltb-false}
+use lib.Dec.{leb, ltb, eqb}
+use lib.ListN.{length, get_or, replicate, drop, length-take, length-drop}
+use lib.Seq.{get_or-take, get_or-drop, ext_get_or, take-take, take-append-le}
+use Rattle.std.specs.List.{list_all, range_with_len}
+use Rattle.std.proofs.lemmas.List.FromFn.{length-range_with_len, get_or-range_with_len}
 use Rattle.model.specs.Tests.{everywhere}
-use Rattle.model.specs.Queue.{Queue, total, queue_in, places_of, bearable_at, bearable, unused_at, unused_zero, bearable_in, run, arrive}
-use Rattle.model.proofs.Tests.{holds_true, everywhere_all, everywhere_fails, everywhere_same}
+use Rattle.model.specs.Queue.{Queue, total, queue_in, places_of, bearable_at, bearable, unused_at, unused_zero, run, arrive}
+use Rattle.model.proofs.Tests.{everywhere_same}
 use Rattle.model.proofs.Queues.{length_in, length_places, total_places, total_past, length_run, length_arrive, total_run, total_arrive}
 use Rattle.slot.specs.Slot.{Small}
 
--- w(u) stands in the place before u
-pub total_at : (places : List ℕ) (u : ℕ) → (u ≡ 0 → ⊥) → total places u ≡ get_or places (u - 1) 0
-total_at places zero h = absurd (h refl)
-total_at places (suc i) h = let same : i ≡ suc i - 1 = omega arith in ap (λ k. get_or places k 0) same
+-- in a test of the first n + 1 places the first of them may be tested first
+and_assoc : (a b c : Bool) → (a && b) && c ≡ a && (b && c)
+and_assoc true b c = refl
+and_assoc false b c = refl
+
+everywhere_front : (test : ℕ → Bool) (n : ℕ) → everywhere test (suc n) ≡ test 0 && everywhere (λ i. test (suc i)) n
+unfolding everywhere
+everywhere_front test zero = cases (test 0)
+  where
+    cases : (b : Bool) → true && b ≡ b && true
+    cases true = refl
+    cases false = refl
+everywhere_front test (suc n) = ap (λ b. b && test (suc n)) (everywhere_front test n) ∙ and_assoc (test 0) (everywhere (λ i. test (suc i)) n) (test (suc n))
 
 -- the queue in the first D places
 
@@ -47,21 +59,6 @@ small_in D places place h small = omega (arith, total_in D places (suc place) h,
 pub positions_in : (n : ℕ) (w : Queue) → n ≤ 6 → n ≤ length w → queue_in n (places_of w) ≡ queue_in n w
 positions_in n w few long = take-take n 6 (w ++ replicate 6 0) few ∙ take-append-le n w (replicate 6 0) long
 
--- they are the first six totals, one after the other
-pub six_places : (w : Queue) → places_of w ≡ total w 1 ∷ total w 2 ∷ total w 3 ∷ total w 4 ∷ total w 5 ∷ total w 6 ∷ []
-six_places [] = refl
-six_places (a ∷ []) = refl
-six_places (a ∷ b ∷ []) = refl
-six_places (a ∷ b ∷ c ∷ []) = refl
-six_places (a ∷ b ∷ c ∷ d ∷ []) = refl
-six_places (a ∷ b ∷ c ∷ d ∷ e ∷ []) = refl
-six_places (a ∷ b ∷ c ∷ d ∷ e ∷ f ∷ w) = refl
-
--- six numbers that are the totals in turn are its places
-pub places_by : (w : Queue) {a b c d e f : ℕ} → a ≡ total w 1 → b ≡ total w 2 → c ≡ total w 3 → d ≡ total w 4 → e ≡ total w 5 →
-    f ≡ total w 6 → a ∷ b ∷ c ∷ d ∷ e ∷ f ∷ [] ≡ places_of w
-places_by w p q r s t u = cc (six_places w)
-
 -- the places of the queue in the first D of six places are these places, where the ones past D are zero
 pub places_in : (D : ℕ) (places : List ℕ) → length places ≡ 6 → ((i : ℕ) → D ≤ i → i < 6 → get_or places i 0 ≡ 0) →
     places_of (queue_in D places) ≡ places
@@ -83,7 +80,7 @@ after_past D places s place h =
     (omega (arith, length_run (queue_in D places) s, length_in_upto D places))
 
 -- in them it is what stood in the next place, or in the last one, less the speed
-pub after_in : (D : ℕ) (places : List ℕ) (s place next : ℕ) → D ≤ length places → place < D → min (place + 2) D ≡ suc next →
+pub after_in : (D : ℕ) (places : List ℕ) (s place next : ℕ) → D ≤ length places → place < D → next ≡ min (place + 1) (D - 1) →
     total (run (queue_in D places) s) (place + 1) ≡ get_or places next 0 - s
 after_in D places s place next long h e =
     let w = queue_in D places in
@@ -106,18 +103,21 @@ with_in D places c d place b long h e =
     let l : length (queue_in D places) ≡ D = length_in D places long in
     rw (total_arrive (queue_in D places) c d (place + 1) (omega arith) (omega arith), e, add-one, total_in D places (suc place) h)
 
--- the tests for bearable, from place to place
+-- tests of every place
 
--- where a place has less than the one before, the test fails
-pub falls_at : (M : ℕ) (places : List ℕ) (u : ℕ) → get_or places u 0 < total places u → bearable_at M places u ≡ false
-falls_at M places u h = rw (lt-leb (total places u) (get_or places u 0) h)
+-- a test of every item of a list is one of every place
+pub list_all_places : (test : ℕ → Bool) (places : List ℕ) → list_all test places ≡ everywhere (λ i. test (get_or places i 0)) (length places)
+unfolding everywhere
+list_all_places test [] = refl
+list_all_places test (x ∷ places) = ap (λ b. test x && b) (list_all_places test places) ∙ sym (everywhere_front _ (length places))
 
--- elsewhere the bound alone is tested
-pub bound_at : (M : ℕ) (places : List ℕ) (u : ℕ) → total places u ≤ get_or places u 0 →
-    bearable_at M places u ≡ leb (get_or places u 0) ((u + 1) * M)
-bound_at M places u h = rw (le-leb (total places u) (get_or places u 0) h, add-one)
+-- a test of every number of a range is one of every place below its end
+pub list_all_range : (test : ℕ → Bool) (n : ℕ) → list_all test (range_with_len 0 n) ≡ everywhere test n
+list_all_range test n =
+    list_all_places test (range_with_len 0 n) ∙ ap (everywhere _) (length-range_with_len 0 n) ∙ everywhere_same _ test n
+    (λ i h. ap test (get_or-range_with_len 0 n i 0 h ∙ zero-add i))
 
--- the queue in the first D places is bearable where that test holds in each of them
+-- the queue in the first D places is bearable where the test for it holds in each of them
 pub bearable_in_lem : (M D : ℕ) (places : List ℕ) → D ≤ length places → bearable M (queue_in D places) ≡ everywhere (bearable_at M places) D
 unfolding bearable
 bearable_in_lem M D places long =
@@ -125,22 +125,9 @@ bearable_in_lem M D places long =
     ap (everywhere (bearable_at M w)) (length_in D places long) ∙ everywhere_same (bearable_at M w) (bearable_at M places) D
     (λ i h. rw (total_in D places i (omega arith), total_in D places (suc i) h))
 
--- the tests for zero in the unused places
-
--- where each place past D is zero, they all are
-pub unused_all : (D : ℕ) (places : List ℕ) → ((i : ℕ) → i < 6 → D ≤ i → get_or places i 0 ≡ 0) → unused_zero D places ≡ true
-unused_all D places all =
-    holds_true _ (everywhere_all (unused_at D places) (6 - D) (λ i h. rw (all (D + i) (omega arith) (omega arith)) tt))
-
--- where a place past D is not zero, not all of them are
-pub unused_fails : (D : ℕ) (places : List ℕ) (place : ℕ) → D ≤ place → place < 6 → (get_or places place 0 ≡ 0 → ⊥) →
-    unused_zero D places ≡ false
-unused_fails D places place h l here =
-    let same : D + (place - D) ≡ place = omega arith in
-    everywhere_fails (unused_at D places) (6 - D) (place - D) (omega arith) (rw same (ne_eqb (get_or places place 0) 0 here))
-
--- the places hold a bearable queue where the queue in the first D is bearable, as was asked, and the unused places are zero
-pub bearable_unused : (M D : ℕ) (places : List ℕ) (b : Bool) → bearable M (queue_in D places) ≡ b →
-    bearable_in M D places ≡ (b && unused_zero D places)
-unfolding bearable_in
-bearable_unused M D places b e = ap (λ t. t && unused_zero D places) e
+-- the places past the first D are zero where each number that stands in them is
+pub unused_all : (D : ℕ) (places : List ℕ) → length places ≡ 6 → list_all (λ x. eqb x 0) (drop D places) ≡ unused_zero D places
+unused_all D places six =
+    let rest : length (drop D places) ≡ 6 - D = omega (arith, length-drop D places) in
+    list_all_places (λ x. eqb x 0) (drop D places) ∙ ap (everywhere _) rest ∙ everywhere_same _ (unused_at D places) (6 - D)
+    (λ i h. rw (get_or-drop D places i 0) refl)

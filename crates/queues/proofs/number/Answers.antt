@@ -1,29 +1,23 @@
--- `number` meets its contract: so far the sum is what comes before the queue at the first positions; the whole of it is below N.
-use mathlib.Core.Path.{refl, ◌∙◌}
+-- `number` meets its contract: it sums what comes before the queue at each position; the whole of it is below N.
+use mathlib.Core.Path.{◌∙◌}
 use native.Mathlib.Omega.{arith}
-use Rattle.process.specs.Sums.{sum}
-use Rattle.process.proofs.Sums.{sum_next, sum_whole}
-use Rattle.queues.proofs.Numbering.{position_fits, number_whole}
+use borrow.Author.Tests.{tests}
+use Rattle.std.proofs.Common.{rules}
+use Rattle.model.specs.Queue.{queue_in}
+use Rattle.queues.specs.Order.{earlier_at}
+use Rattle.queues.proofs.Numbering.{number_whole, number_fits}
+use Rattle.queues.proofs.Ranges.{range_sum, range_sum_fits}
 use Rattle.queues.proofs.number.Goals as goal
 
-pub loop-u-init : goal.loop-u-init
-unfolding sum
-loop-u-init c = (omega arith, refl)
-
-pub overflow_add-before : goal.overflow_add-before
-overflow_add-before c =
-    let u = c.loop-u.u in
-    omega (
-      arith,
-      c.loop-u.invariant.1,
-      c.earlier-before.ensures,
-      position_fits c.requires.1 (omega arith) u c.loop-u-test.true,
-    )
-
-pub loop-u-preserved : goal.loop-u-preserved
-loop-u-preserved c = (omega arith, sum_next _ c.loop-u.u c.loop-u.invariant.1 c.earlier-before.ensures)
+pub sum-requires-clause-fits : goal.sum-requires-clause-fits
+sum-requires-clause-fits c =
+    let a = c.args in
+    range_sum_fits (earlier_at a.largest (queue_in a.bound a.queue)) 0 a.bound c.map.ensures.source c.map.ensures.closure
+    (λ x r q k. search (rules, tests)) _ (omega (arith, number_whole c.requires (omega arith), number_fits c.requires (omega arith)))
 
 pub returns : goal.returns
 returns c =
-    sum_whole _ c.loop-u.u c.args.bound c.loop-u.invariant.1 (omega arith) (omega arith) ∙
-    number_whole c.requires.1 (omega arith)
+    let a = c.args in
+    range_sum (earlier_at a.largest (queue_in a.bound a.queue)) 0 a.bound c.map.ensures.source c.map.ensures.closure
+    (λ x r q k. search (rules, tests)) c.sum.result c.sum.ensures.ran ∙
+    number_whole c.requires (omega arith)

@@ -1,5 +1,4 @@
 -- `total_after` meets its contract: the total after a slot is found by where the place lies among the first ones.
-use Prim.Native.Nat.{◌+◌}
 use mathlib.Core.Path.{sym, ◌∙◌}
 use native.Mathlib.Omega.{arith}
 use Rattle.slot.proofs.Places.{after_past, after_in}
@@ -10,12 +9,8 @@ returns-then-bound-place c =
     let a = c.args in
     sym (after_past a.bound a.queue a.speed a.place c.if-bound-place.true)
 
-pub returns-then-place-bound : goal.returns-then-place-bound
-returns-then-place-bound c =
-    let a = c.args in
-    c.less.ensures ∙ sym (after_in a.bound a.queue a.speed a.place (a.place + 1) (omega arith) (omega arith) (omega arith))
-
 pub returns : goal.returns
 returns c =
     let a = c.args in
-    c.less-2.ensures ∙ sym (after_in a.bound a.queue a.speed a.place a.place (omega arith) (omega arith) (omega arith))
+    c.saturating_sub.ensures ∙
+    sym (after_in a.bound a.queue a.speed a.place c.min-next.result (omega arith) c.if-bound-place.false c.min-next.ensures)

@@ -24,8 +24,8 @@ overflow_add-result c =
     let a = c.args in
     omega (arith, small_in a.bound a.queue a.place c.if-bound-place.false c.requires.3)
 
-pub returns : goal.returns
-returns c =
+pub returns-else-place-deadline : goal.returns-else-place-deadline
+returns-else-place-deadline c =
     let a = c.args in
     let due = le-leb a.deadline (a.place + 1) c.if-place-deadline.false in
     sym (with_in a.bound a.queue a.size a.deadline a.place true (omega arith) (omega arith) due)
