@@ -1,29 +1,21 @@
 // What a whole sheet's numbers come to, and the two limits over them: 9, that a bound on every value fits, and 10, that the queues are not
-// too many. All of it is for a sheet whose fields are in range (4 to 8).
+// too many. All of it is for a sheet whose fields are in range (4 to 8), ranges::Ranged.
 //
 // A sheet is handed on by value: nothing here changes it. Places past the counts are never looked at.
 #![tactic(auto)]
 
-ghost use Rattle.std.specs.Prelude.{◌≡◌, ◌*◌, ◌^◌, ◌≤◌, max, leb};
+ghost use Rattle.std.specs.Prelude.{◌≡◌};
 ghost use Rattle.model.specs.View.{view_of, W, M, greatest_energy, G};
-ghost use Rattle.model.specs.Refusal.{fields_refusal, limits_refusal, N, value_limit};
-ghost use Rattle.counts.specs.Counts.{HoldsCounts};
+ghost use Rattle.model.specs.Refusal.{value_fits, limits_refusal, N, value_limit};
+ghost use Rattle.refusals.specs.Numbers.{number_of};
 
-use model::Sheet;
+use counts::Counts;
 use queues::queue_count;
+use ranges::Ranged;
+use refusals::Refusal;
 
 // The limit of number 9, 2^63 - 1: T times G times W to the power T, which no value exceeds, must be within it.
 const VALUE_LIMIT: u64 = 9223372036854775807;
-
-// The larger of two numbers.
-pub fn larger(a: u32, b: u32) -> u32
-    ensures { result ≡ max a b }
-{
-    if a < b {
-        return b;
-    }
-    a
-}
 
 // The largest speed M and the greatest energy, which need not belong together.
 #[derive(Clone, Copy)]
@@ -33,107 +25,67 @@ pub struct Greatest {
 }
 
 // Both, over all the speeds; the energy is 0 where all are 0.
-pub fn greatest_of(sheet: Sheet) -> Greatest
-    requires { fields_refusal (view_of sheet) ≡ 0 }
-    ensures { (result.speed ≡ M (view_of sheet)) × (result.energy ≡ greatest_energy (view_of sheet)) }
+#[tactic(auto, using(crate::proofs::Places::speeds_few))]
+pub fn greatest_of(sheet: Ranged) -> Greatest
+    ensures { (result.speed ≡ M (view_of sheet.sheet)) × (result.energy ≡ greatest_energy (view_of sheet.sheet)) }
 {
-    let mut speed = 0;
-    let mut energy = 0;
-    let mut place = 0;
-    while place < sheet.speed_count {
-        let one = sheet.speeds[place as usize];
-        speed = larger(speed, one.speed);
-        energy = larger(energy, one.energy);
-        place += 1;
+    let mut greatest = Greatest {
+        speed: 0,
+        energy: 0,
+    };
+    for one in sheet.sheet.speeds() {
+        greatest.speed = greatest.speed.max(one.speed);
+        greatest.energy = greatest.energy.max(one.energy);
     }
-    Greatest { speed, energy }
+    greatest
 }
 
 // G, the greatest energy, or 1 if that is 0.
-fn greatest_or_one(sheet: Sheet) -> u32
-    requires { fields_refusal (view_of sheet) ≡ 0 }
-    ensures { result ≡ G (view_of sheet) }
+fn greatest_or_one(sheet: Ranged) -> u32
+    ensures { result ≡ G (view_of sheet.sheet) }
 {
-    let greatest = greatest_of(sheet);
-    let energy = greatest.energy;
-    if energy == 0 {
-        return 1;
-    }
-    energy
+    greatest_of(sheet).energy.max(1)
 }
 
 // W, the sum of the weights.
-pub fn weights(sheet: Sheet) -> u32
-    requires { fields_refusal (view_of sheet) ≡ 0 }
-    ensures { result ≡ W (view_of sheet) }
+#[tactic(auto, using(crate::proofs::Places::jobs_few))]
+pub fn weights(sheet: Ranged) -> u32
+    ensures { result ≡ W (view_of sheet.sheet) }
 {
-    let mut all = 0;
-    let mut place = 0;
-    while place < sheet.job_count {
-        let one = sheet.jobs[place as usize];
-        all += one.weight;
-        place += 1;
-    }
-    all
+    sheet.sheet.jobs().iter().map(|one| one.weight).sum()
 }
 
-// Whether a number, multiplied so many times by another, stays within the limit. It is multiplied only where the product is known to
-// stay within the limit, so that none wraps. The first product that would not stay within it decides: the other number is at least 1, so
-// later products are no smaller.
-fn product_fits(first: u64, by: u64, times: u32, limit: u64) -> bool
-    requires { 1 ≤ by }
-    ensures { result ≡ leb (first * by ^ times) limit }
+// Whether T times G times W to the power T stays within the limit, decided exactly: T and G are at least 1, so where the power or the
+// product leaves 64 bits it is past the limit.
+fn value_fits(sheet: Ranged) -> bool
+    ensures { result ≡ value_fits sheet.sheet.horizon value_limit (view_of sheet.sheet) }
 {
-    if limit < first {
-        return false;
-    }
-    let most = limit / by;
-    let mut product = first;
-    let mut done = 0;
-    while done < times {
-        if most < product {
-            return false;
-        }
-        product *= by;
-        done += 1;
-    }
-    true
-}
-
-// Whether the factor times G times W to the power T stays within the limit, decided exactly.
-fn value_fits(factor: u32, limit: u64, sheet: Sheet) -> bool
-    requires { fields_refusal (view_of sheet) ≡ 0 }
-    ensures { result ≡ leb (factor * G (view_of sheet) * W (view_of sheet) ^ sheet.horizon) limit }
-{
-    let greatest = greatest_or_one(sheet);
-    let weight_sum = weights(sheet);
-    product_fits(
-        factor as u64 * greatest as u64,
-        weight_sum as u64,
-        sheet.horizon,
-        limit,
-    )
+    let factor = sheet.sheet.horizon as u64 * greatest_or_one(sheet) as u64;
+    let weight_sum = weights(sheet) as u64;
+    weight_sum
+        .checked_pow(sheet.sheet.horizon)
+        .and_then(|power| power.checked_mul(factor))
+        .is_some_and(|value| value <= VALUE_LIMIT)
 }
 
 // N, the number of bearable queues.
-pub fn queues_of(counts: &[u32; 2352], sheet: Sheet) -> usize
-    requires { HoldsCounts counts.now × (fields_refusal (view_of sheet) ≡ 0) }
-    ensures { result ≡ N (view_of sheet) }
+pub fn queues_of(counts: &Counts, sheet: Ranged) -> usize
+    ensures { result ≡ N (view_of sheet.sheet) }
 {
     let greatest = greatest_of(sheet);
-    queue_count(counts, greatest.speed, sheet.bound as usize)
+    queue_count(counts, greatest.speed, sheet.sheet.bound as usize)
 }
 
 // 9 and 10.
-pub fn limits_refusal(counts: &[u32; 2352], sheet: Sheet) -> u32
-    requires { HoldsCounts counts.now × (fields_refusal (view_of sheet) ≡ 0) }
-    ensures { result ≡ limits_refusal value_limit (N (view_of sheet)) (view_of sheet) }
+#[tactic(auto, unfolding(model::specs::Refusal::limit_lines))]
+pub fn limits_refusal(counts: &Counts, sheet: Ranged) -> Result<(), Refusal>
+    ensures { number_of result ≡ limits_refusal value_limit (N (view_of sheet.sheet)) (view_of sheet.sheet) }
 {
-    if !value_fits(sheet.horizon, VALUE_LIMIT, sheet) {
-        return 9;
+    if !value_fits(sheet) {
+        return Err(Refusal::Values);
     }
-    if 65535 < queues_of(counts, sheet) {
-        return 10;
+    if queues_of(counts, sheet) > 65535 {
+        return Err(Refusal::Queues);
     }
-    0
+    Ok(())
 }

@@ -1,45 +1,59 @@
--- What looking a speed or an arrival up on a sheet finds, place by place.
-use Prim.Native.Nat.{ℕ, ◌+◌, ◌≤◌, ◌<◌}
-use mathlib.Core.Path.{◌≡◌, sym, ap, ◌∙◌, subst}
-use mathlib.Core.Bool.{Bool, true, false, ◌&&◌}
-use native.Mathlib.Omega.{arith}
-use borrow.Author.Tests.{eq-eqb, ne_eqb}
-use lib.Dec.{T, ltb, eqb, ltb→lt, eqb→eq}
-use lib.ListN.{get_or}
+-- What looking a speed or an arrival up on a sheet finds.
+use Rattle.std.proofs.Common.{ℕ, zero, suc, ◌≤◌, ◌<◌, ◌≡◌, refl, sym, ap, ◌∙◌, subst, Bool, true, false, cond, not, Option, Some, None, nat_lt, List, length, take, get_or, T, ltb, eqb, ltb→lt, ltb-false, eqb→eq, add-one, arith}
+use Rattle.std.proofs.Math.Nat.{lt_of_lt_of_le, not-le_of_lt}
+use Rattle.std.proofs.lemmas.List.{take_all}
+use Rattle.std.proofs.lemmas.List.Folds.{list_any_more}
+use Rattle.std.proofs.lemmas.List.Sums.{position_or_len_is, prefix_len-le-length}
+use Rattle.std.specs.List.{list_any, position, position_or_len}
+use Rattle.std.specs.Option.{unwrap_or}
 use Rattle.model.proofs.Refusal.{ranged}
-use Rattle.model.proofs.Tests.{and_left, anywhere_at, first_more, first_found, anywhere_first, anywhere_more, anywhere_found}
-use Rattle.model.specs.View.{view_of, zero_speed, zero_job, speed_at, energy_at, size_at, is_speed_at, on_sheet, place_of_speed, energy_of}
+use Rattle.model.proofs.Tests.{and_left, holds_true, fails_false, anywhere_at, first_holds, first_within, first_upto, anywhere_first}
+use Rattle.model.specs.View.{view_of, zero_speed, energy_at, size_at, is_speed_at, on_sheet, place_of_speed, energy_of}
 use Rattle.model.specs.Refusal.{fields_refusal}
 use Rattle.model.specs.Stepper.{is_entry_at, is_entry}
 use Rattle.model.specs.Tests.{first_place, anywhere}
-use Rattle.model.specs.declared.Job.{Job}
 use Rattle.model.specs.declared.Sheet.{Sheet}
 use Rattle.model.specs.declared.Speed.{Speed}
-use Rattle.limits.proofs.Places.{speed_counts, job_counts}
+use Rattle.limits.proofs.Places.{speed_counts}
+
+-- a search through a list, and the definitions that go by places
+
+-- a test holds at one of the first places exactly where it does of one of the first few
+anywhere_taken : {A : Type 0} (test : A → Bool) (l : List A) (d : A) (n : ℕ) → n ≤ length l →
+    anywhere (λ i. test (get_or l i d)) n ≡ list_any test (take n l)
+unfolding anywhere
+anywhere_taken test l d zero h = refl
+anywhere_taken test l d (suc n) h =
+    rw (← add-one n, list_any_more test l n d (omega arith), anywhere_taken test l d n (omega arith)) refl
+
+-- at one of the places exactly where it does of one of the list
+pub anywhere_listed : {A : Type 0} (test : A → Bool) (l : List A) (d : A) (n : ℕ) → length l ≡ n →
+    anywhere (λ i. test (get_or l i d)) n ≡ list_any test l
+anywhere_listed test l d n e =
+    anywhere_taken test l d n (omega arith) ∙ ap (list_any test) (take_all n l (omega arith))
+
+-- the first place at which it holds
+pub first_listed : {A : Type 0} (test : A → Bool) (l : List A) (d : A) →
+    position_or_len test l ≡ first_place (λ i. test (get_or l i d)) (length l)
+first_listed test l d =
+    let here : ℕ → Bool = λ i. test (get_or l i d) in
+    position_or_len_is test l (first_place here (length l)) d (first_within here (length l))
+    (λ k h. fails_false (here k) (λ t. not-le_of_lt h (first_upto here (length l) k (lt_of_lt_of_le h (first_within here (length l))) t)))
+    (λ h. holds_true (here (first_place here (length l))) (first_holds here (length l) h))
+
+-- the place that a search found, or the length where it found none
+pub position_or : {A : Type 0} (test : A → Bool) (l : List A) {n : ℕ} {found : Option ℕ} → length l ≡ n → found ≡ position test l →
+    unwrap_or found n ≡ position_or_len test l
+position_or test l {n} e f =
+    let k = position_or_len test l in
+    ap (λ o. unwrap_or o n) f ∙ go k (prefix_len-le-length (λ x. not (test x)) l) (nat_lt k (length l)) refl
+  where
+    go : (k : ℕ) → k ≤ length l → (b : Bool) → nat_lt k (length l) ≡ b → unwrap_or (cond b (Some k) None) n ≡ k
+    go k h true t = refl
+    go k h false t = omega (arith, e, ltb-false k (length l) t)
 
 module _ (s : Sheet) where
   -- a speed on the sheet
-
-  -- the search: not found so far and not here
-  pub speed_not_here : (a j : ℕ) → first_place (is_speed_at (view_of s) a) j ≡ j → j < s.speed_count → ((get_or s.speeds j zero_speed).speed ≡ a → ⊥) →
-      first_place (is_speed_at (view_of s) a) (j + 1) ≡ j + 1
-  speed_not_here a j none_before h other =
-      let same = ap (λ (one : Speed). one.speed) (speed_counts s j h) in
-      first_more (is_speed_at (view_of s) a) j none_before (ne_eqb (speed_at (view_of s) j) a (λ e. other (sym same ∙ e)))
-
-  -- not found so far, but here
-  pub speed_found : (a j : ℕ) → first_place (is_speed_at (view_of s) a) j ≡ j → j < s.speed_count → (get_or s.speeds j zero_speed).speed ≡ a →
-      j ≡ place_of_speed (view_of s) a
-  speed_found a j none_before h here =
-      let same = ap (λ (one : Speed). one.speed) (speed_counts s j h) in
-      sym (first_found (is_speed_at (view_of s) a) j s.speed_count none_before (eq-eqb (speed_at (view_of s) j) a (same ∙ here)) h)
-
-  -- found nowhere
-  pub speed_nowhere : (a j : ℕ) → first_place (is_speed_at (view_of s) a) j ≡ j → j ≤ s.speed_count → s.speed_count ≤ j →
-      j ≡ place_of_speed (view_of s) a
-  speed_nowhere a j none_before h l =
-      let all : j ≡ s.speed_count = omega arith in
-      sym none_before ∙ ap (first_place (is_speed_at (view_of s) a)) all
 
   -- it is on the sheet exactly where its place is below the count
   pub on_sheet_place : (a : ℕ) → on_sheet (view_of s) a ≡ ltb (place_of_speed (view_of s) a) s.speed_count
@@ -56,35 +70,6 @@ module _ (s : Sheet) where
       (h, sym (ap (λ (one : Speed). one.energy) (speed_counts s j h)) ∙ ap (energy_at (view_of s)) e)
 
   -- an arrival on the sheet
-
-  -- what was asked of the job in memory there is that
-  asked_here : (size deadline i : ℕ) {r : Bool} → i < s.job_count →
-      r ≡ eqb (get_or s.jobs i zero_job).size size && eqb (get_or s.jobs i zero_job).deadline deadline → r ≡ is_entry_at (view_of s) size deadline i
-  asked_here size deadline i h e =
-      e ∙ sym (ap (λ (one : Job). eqb one.size size && eqb one.deadline deadline) (job_counts s i h))
-
-  -- the search: not found so far and not here
-  pub entry_not_here : (size deadline i : ℕ) {r : Bool} → anywhere (is_entry_at (view_of s) size deadline) i ≡ false → i < s.job_count →
-      r ≡ eqb (get_or s.jobs i zero_job).size size && eqb (get_or s.jobs i zero_job).deadline deadline → r ≡ false →
-      anywhere (is_entry_at (view_of s) size deadline) (i + 1) ≡ false
-  entry_not_here size deadline i none_before h e other =
-      anywhere_more (is_entry_at (view_of s) size deadline) i none_before (sym (asked_here size deadline i h e) ∙ other)
-
-  -- found here
-  pub entry_found : (size deadline i : ℕ) {r : Bool} → i < s.job_count →
-      r ≡ eqb (get_or s.jobs i zero_job).size size && eqb (get_or s.jobs i zero_job).deadline deadline → r ≡ true →
-      true ≡ is_entry (view_of s) size deadline
-  unfolding is_entry
-  entry_found size deadline i h e here =
-      sym (anywhere_found (is_entry_at (view_of s) size deadline) s.job_count i h (sym (asked_here size deadline i h e) ∙ here))
-
-  -- found nowhere
-  pub entry_nowhere : (size deadline i : ℕ) → anywhere (is_entry_at (view_of s) size deadline) i ≡ false → i ≤ s.job_count → s.job_count ≤ i →
-      false ≡ is_entry (view_of s) size deadline
-  unfolding is_entry
-  entry_nowhere size deadline i none_before h l =
-      let all : i ≡ s.job_count = omega arith in
-      sym none_before ∙ ap (anywhere (is_entry_at (view_of s) size deadline)) all
 
   -- an arrival that is an entry has a size that can be added
   pub entry_small : (size deadline : ℕ) → fields_refusal (view_of s) ≡ 0 → T (is_entry (view_of s) size deadline) → size ≤ 255

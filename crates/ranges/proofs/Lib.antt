@@ -1,2 +1,1 @@
-pub mod Speeds
 pub mod Answers

@@ -1,30 +1,20 @@
--- The number of the speed at a place, found in memory.
-use Prim.Native.Nat.{ℕ, zero, suc, ◌-◌, ◌<◌}
-use mathlib.Core.Path.{◌≡◌, refl, sym, ap, ◌∙◌}
-use native.Mathlib.Nat.{suc-ne-zero}
-use native.Mathlib.Omega.{arith}
-use lib.ListN.{get_or}
-use Rattle.model.specs.View.{view_of, zero_speed}
-use Rattle.model.specs.Refusal.{speed_refusal_at}
-use Rattle.laws.proofs.Readers.{speed_number}
-use Rattle.model.specs.declared.Sheet.{Sheet}
+-- The number of the speed at a place, by the speed that a loop over the speeds has kept from the place before.
+use Prim.Native.Nat.{pred}
+use Rattle.std.proofs.Common.{ℕ, zero, suc, ◌≡◌, refl, ap, ◌∙◌, List, get_or}
+use Rattle.std.proofs.Math.Nat.{suc-ne-zero}
+use Rattle.model.specs.View.{View, speed_at, energy_at, zero_speed}
+use Rattle.model.specs.Refusal.{refusal_of_speed, speed_refusal_at}
 use Rattle.model.specs.declared.Speed.{Speed}
-use Rattle.limits.proofs.Places.{speed_counts}
 
--- at the first place nothing is before
-pub at_first : (s : Sheet) (place : ℕ) → place ≡ 0 → place < s.speed_count →
-    speed_number 0 zero_speed (get_or s.speeds place zero_speed) ≡ speed_refusal_at (view_of s) place
-at_first s zero e h = sym (ap (speed_number 0 zero_speed) (speed_counts s 0 h))
-at_first s (suc place) e h = absurd (suc-ne-zero place e)
+-- at the first place nothing is before, and what is kept does not count
+after_kept : (s : View) (j : ℕ) {before : ℕ} → ((j ≡ 0 → ⊥) → before ≡ speed_at s (pred j)) →
+    refusal_of_speed j before (speed_at s j) (energy_at s j) ≡ speed_refusal_at s j
+after_kept s zero kept = refl
+after_kept s (suc j) kept =
+    ap (λ v. refusal_of_speed (suc j) v (speed_at s (suc j)) (energy_at s (suc j))) (kept (suc-ne-zero j))
 
--- at each other place the speed before it is
-pub at_later : (s : Sheet) (place : ℕ) → (place ≡ 0 → ⊥) → place < s.speed_count →
-    speed_number place (get_or s.speeds (place - 1) zero_speed) (get_or s.speeds place zero_speed) ≡ speed_refusal_at (view_of s) place
-at_later s zero some h = absurd (some refl)
-at_later s (suc place) some h =
-    let here = speed_counts s (suc place) h in
-    let before = speed_counts s place (omega arith) in
-    let back : suc place - 1 ≡ place = omega arith in
-    ap (λ (j : ℕ). speed_number (suc place) (get_or s.speeds j zero_speed) (get_or s.speeds (suc place) zero_speed)) back ∙
-    sym (ap (λ (v : Speed). speed_number (suc place) v (get_or (view_of s).speeds (suc place) zero_speed)) before ∙
-    ap (speed_number (suc place) (get_or s.speeds place zero_speed)) here)
+-- the same of the speeds that the loop goes over
+pub number_kept : (s : View) (j : ℕ) {before : ℕ} {speeds : List Speed} → speeds ≡ s.speeds → ((j ≡ 0 → ⊥) → before ≡ speed_at s (pred j)) →
+    refusal_of_speed j before (get_or speeds j zero_speed).speed (get_or speeds j zero_speed).energy ≡ speed_refusal_at s j
+number_kept s j {before} e kept =
+    ap (λ l. refusal_of_speed j before (get_or l j zero_speed).speed (get_or l j zero_speed).energy) e ∙ after_kept s j kept

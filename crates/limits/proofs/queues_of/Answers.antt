@@ -10,9 +10,9 @@ use Rattle.limits.proofs.queues_of.Goals as goal
 
 pub queue_count-requires : goal.queue_count-requires
 queue_count-requires c =
-    (c.requires.0, ranges_of (ranged (view_of c.args.sheet) c.requires.1) c.greatest_of-greatest.ensures.0 (omega arith))
+    ranges_of (ranged (view_of c.args.sheet.sheet) c.args.sheet.fields) c.greatest_of-greatest.ensures.0 (omega arith)
 
 pub returns : goal.returns
 returns c =
-    let s = view_of c.args.sheet in
+    let s = view_of c.args.sheet.sheet in
     c.queue_count.ensures ∙ ap (λ (m : ℕ). queue_count m s.bound) c.greatest_of-greatest.ensures.0 ∙ sym (N_is s)

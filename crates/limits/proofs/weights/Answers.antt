@@ -1,48 +1,22 @@
--- `weights` meets its contract. The loop's invariant: the sum so far is that of the weights passed. No sum wraps: each weight is at most
--- 255.
-use mathlib.Core.Path.{refl, sym, ap}
-use native.Mathlib.Omega.{arith}
-use Rattle.process.specs.Sums.{sum}
-use Rattle.process.proofs.Sums.{sum_next, sum_whole}
-use Rattle.model.proofs.Refusal.{ranged, weights_high}
-use Rattle.model.specs.View.{view_of, weight_at, W}
+-- `weights` meets its contract: W is the sum over the list of the jobs that count, and so small that no sum wraps.
+use Rattle.std.proofs.Common.{arith, rules, ◌<◌, ◌^◌, ◌≡◌, ap, ◌∙◌, length}
+use Rattle.std.proofs.iter.runs.Made.{chains}
+use Rattle.std.specs.List.{sum_by}
 use Rattle.model.specs.declared.Job.{Job}
-use Rattle.limits.proofs.Places.{job_counts}
+use Rattle.limits.proofs.Places.{weights_listed, weights_small}
 use Rattle.limits.proofs.weights.Goals as goal
 
-pub loop-place-init : goal.loop-place-init
-unfolding sum
-loop-place-init c = (omega arith, refl)
-
-pub bounds-sheet-place : goal.bounds-sheet-place
-bounds-sheet-place c = omega (arith, (ranged (view_of c.args.sheet) c.requires).jobs_high)
-
-pub overflow_add-all : goal.overflow_add-all
-overflow_add-all c =
-    let sheet = c.args.sheet in
-    let l = c.loop-place in
-    let right = ranged (view_of sheet) c.requires in
-    omega (
-      arith,
-      l.invariant.1,
-      weights_high (view_of sheet) right l.place l.invariant.0,
-      right.jobs_high,
-      right.weight_high l.place c.loop-place-test.true,
-      ap (λ (one : Job). one.weight) (job_counts sheet l.place c.loop-place-test.true),
-    )
-
-pub loop-place-preserved : goal.loop-place-preserved
-loop-place-preserved c =
-    let sheet = c.args.sheet in
-    let l = c.loop-place in (
-      omega arith,
-      sum_next (weight_at (view_of sheet)) l.place l.invariant.1
-          (sym (ap (λ (one : Job). one.weight) (job_counts sheet l.place c.loop-place-test.true))),
-    )
+pub sum-requires-clause-fits : goal.sum-requires-clause-fits
+sum-requires-clause-fits c =
+    let s = c.args.sheet.sheet in
+    let long : length s.jobs ≡ 32 = search rules in
+    let small : sum_by (λ (one : Job). one.weight) c.jobs.result.now < 2 ^ 32 =
+    rw c.jobs.ensures.lent (omega (arith, weights_listed s long c.args.sheet.fields, weights_small s c.args.sheet.fields)) in
+    search (rules, chains)
 
 pub returns : goal.returns
-unfolding W
 returns c =
-    let sheet = c.args.sheet in
-    let l = c.loop-place in
-    sum_whole (weight_at (view_of sheet)) l.place sheet.job_count l.invariant.1 l.invariant.0 c.loop-place-test.false
+    let s = c.args.sheet.sheet in
+    let long : length s.jobs ≡ 32 = search rules in
+    let total : c.sum.result ≡ sum_by (λ (one : Job). one.weight) c.jobs.result.now = search rules in
+    total ∙ ap (sum_by (λ (one : Job). one.weight)) c.jobs.ensures.lent ∙ weights_listed s long c.args.sheet.fields

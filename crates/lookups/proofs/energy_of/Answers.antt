@@ -10,11 +10,11 @@ bounds-sheet-place c =
     let a = c.args in
     omega (
       arith,
-      (energy_at_place a.sheet a.speed c.place_of-place.result c.place_of-place.ensures c.requires.1).0,
-      (ranged (view_of a.sheet) c.requires.0).speeds_high,
+      (energy_at_place a.sheet.sheet a.speed c.place_of-place.result c.place_of-place.ensures c.requires).0,
+      (ranged (view_of a.sheet.sheet) c.args.sheet.fields).speeds_high,
     )
 
 pub returns : goal.returns
 returns c =
     let a = c.args in
-    (energy_at_place a.sheet a.speed c.place_of-place.result c.place_of-place.ensures c.requires.1).1
+    (energy_at_place a.sheet.sheet a.speed c.place_of-place.result c.place_of-place.ensures c.requires).1

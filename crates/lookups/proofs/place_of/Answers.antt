@@ -1,27 +1,23 @@
--- `place_of` meets its contract. The loop's invariant: the speed stands at no place passed.
-use mathlib.Core.Path.{refl}
-use native.Mathlib.Omega.{arith}
-use Rattle.model.proofs.Refusal.{ranged}
-use Rattle.model.specs.View.{view_of}
+-- `place_of` meets its contract: the search through the speeds that count is the definition's, which goes by their places.
+use Rattle.std.proofs.Common.{◌≡◌, Bool, ap, ◌∙◌, length, eqb, rules, tests}
+use Rattle.std.proofs.lemmas.Iterator.{YieldsList-from_slice}
+use Rattle.std.proofs.lemmas.Iterator.Search.{position_from_yields_List}
+use Rattle.model.specs.View.{view_of, zero_speed, is_speed_at}
 use Rattle.model.specs.Tests.{first_place}
-use Rattle.lookups.proofs.Looking.{speed_not_here, speed_found}
+use Rattle.model.specs.declared.Speed.{Speed}
+use Rattle.limits.proofs.Places.{speeds_few, speeds_counted}
+use Rattle.lookups.proofs.Looking.{position_or, first_listed}
 use Rattle.lookups.proofs.place_of.Goals as goal
 
-pub loop-place-init : goal.loop-place-init
-unfolding first_place
-loop-place-init c = (refl, omega arith)
-
-pub bounds-sheet-place : goal.bounds-sheet-place
-bounds-sheet-place c = omega (arith, (ranged (view_of c.args.sheet) c.requires).speeds_high)
-
-pub returns-then-one-speed : goal.returns-then-one-speed
-returns-then-one-speed c =
-    let l = c.loop-place in
-    let a = c.args in
-    speed_found a.sheet a.speed l.place l.invariant.0 c.loop-place-test.true c.if-one-speed.true
-
-pub loop-place-preserved : goal.loop-place-preserved
-loop-place-preserved c =
-    let l = c.loop-place in
-    let a = c.args in
-    (speed_not_here a.sheet a.speed l.place l.invariant.0 c.loop-place-test.true c.if-one-speed.false, omega arith)
+pub returns : goal.returns
+returns c =
+    let s = c.args.sheet.sheet in
+    let test : Speed → Bool = λ one. eqb one.speed c.args.speed in
+    let speeds = (view_of s).speeds in
+    let long : length s.speeds ≡ 9 = search rules in
+    let counted = speeds_counted s long (speeds_few s c.args.sheet.fields) in
+    let found =
+    position_from_yields_List test _ _ c.position-place.result c.position-place.ensures.ran (YieldsList-from_slice speeds cc)
+    (λ x b q k. search (rules, tests)) in
+    c.unwrap_or.ensures ∙ position_or test speeds counted found ∙ first_listed test speeds zero_speed ∙
+    ap (first_place (is_speed_at (view_of s) c.args.speed)) counted

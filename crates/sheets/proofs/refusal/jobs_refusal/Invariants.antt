@@ -1,12 +1,8 @@
--- `jobs_refusal` meets its contract. The loop's invariant: every job passed has the number 0.
-use Prim.Native.Nat.{◌≤◌, ◌-◌}
-use mathlib.Core.Path.{◌≡◌}
+-- `jobs_refusal` meets its contract. The loop's invariant: no job passed is refused.
+use Rattle.std.proofs.Common.{◌≡◌}
 use Rattle.model.specs.View.{view_of}
 use Rattle.model.specs.Refusal.{jobs_refusal}
 use Rattle.sheets.proofs.refusal.jobs_refusal.Given as goal
 
-abbrev pub invariant-loop-place : goal.invariant-loop-place
-invariant-loop-place l = (l.place ≤ l.sheet.job_count) × (jobs_refusal (view_of l.sheet) l.place ≡ 0)
-
-abbrev pub decreases-loop-place : goal.decreases-loop-place
-decreases-loop-place l = l.sheet.job_count - l.place
+abbrev pub invariant-loop-one : goal.invariant-loop-one
+invariant-loop-one l = jobs_refusal (view_of l.fn.sheet) l.one-index ≡ 0

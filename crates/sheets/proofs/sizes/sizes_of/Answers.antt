@@ -11,27 +11,24 @@ use Rattle.sheets.proofs.sizes.sizes_of.Goals as goal
 
 pub queue_count-requires : goal.queue_count-requires
 queue_count-requires c =
-    let right = ranged (view_of c.args.sheet) c.requires.1 in
-    (c.requires.0, ranges_of right c.greatest_of-greatest.ensures.0 (omega arith))
+    let right = ranged (view_of c.args.sheet.sheet) c.args.sheet.fields in
+    ranges_of right c.greatest_of-greatest.ensures.0 (omega arith)
 
 pub queue_count-requires-2 : goal.queue_count-requires-2
 queue_count-requires-2 c =
-    let right = ranged (view_of c.args.sheet) c.requires.1 in
-    (c.requires.0, ranges_of right c.greatest_of-greatest.ensures.0 (omega (arith, c.one_fewer-fewer.ensures)))
+    let right = ranged (view_of c.args.sheet.sheet) c.args.sheet.fields in
+    ranges_of right c.greatest_of-greatest.ensures.0 (omega (arith, c.saturating_sub.ensures))
 
 pub queue_count-requires-3 : goal.queue_count-requires-3
 queue_count-requires-3 c =
-    let right = ranged (view_of c.args.sheet) c.requires.1 in (
-      c.requires.0,
-      ranges_of right c.greatest_of-greatest.ensures.0
-          (omega (arith, c.one_fewer-fewer.ensures, c.one_fewer.ensures)),
-    )
+    let right = ranged (view_of c.args.sheet.sheet) c.args.sheet.fields in
+    ranges_of right c.greatest_of-greatest.ensures.0 (omega (arith, c.saturating_sub-2.ensures))
 
 pub returns : goal.returns
 returns c =
-    let s = view_of c.args.sheet in
+    let s = view_of c.args.sheet.sheet in
     let most = c.greatest_of-greatest.ensures.0 in
-    let fewer = c.one_fewer-fewer.ensures in
+    let largest = c.greatest_of-greatest.result.speed in
     record {
       largest_is = most;
       energy_is = c.greatest_of-greatest.ensures.1;
@@ -39,11 +36,10 @@ returns c =
       queues_is = c.queue_count.ensures ∙ ap (λ (m : ℕ). queue_count m s.bound) most ∙ sym (N_is s);
       after_is =
           c.queue_count-2.ensures ∙
-          ap (queue_count c.greatest_of-greatest.result.speed) fewer ∙
+          ap (queue_count largest) (omega (arith, c.saturating_sub.ensures)) ∙
           ap (λ (m : ℕ). queue_count m (pred s.bound)) most;
       blocks_is =
           c.queue_count-3.ensures ∙
-          ap (queue_count c.greatest_of-greatest.result.speed)
-          (c.one_fewer.ensures ∙ ap pred fewer) ∙
+          ap (queue_count largest) (omega (arith, c.saturating_sub-2.ensures)) ∙
           ap (λ (m : ℕ). queue_count m (pred (pred s.bound))) most;
     }
