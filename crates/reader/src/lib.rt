@@ -4,16 +4,16 @@
 
 ghost use Rattle.std.specs.Prelude.{◌≡◌};
 ghost use Rattle.reader.specs.Calls.{IsRead};
-ghost use Rattle.reader.specs.Answers.{sheet_given};
-ghost use Rattle.model.specs.View.{view_of, zero_sheet};
-ghost use Rattle.model.specs.Refusal.{fields_refusal, limits_refusal, N, value_limit};
+ghost use Rattle.reader.specs.Answers.{number_and_sheet};
+ghost use Rattle.model.specs.Reading.{read};
 
-use counts::table;
-use fields::{Field, field_at, number_of};
+use counts::Counts;
+use fields::field_at;
 use limits::limits_refusal;
-use model::Sheet;
-use ranges::{bound_right, horizon_right};
-use tables::{JobTable, SpeedTable, job_table_at, speed_table_at, zero_jobs, zero_speeds};
+use model::{Job, Sheet, Speed};
+use ranges::{Ranged, bound_right, horizon_right};
+use refusals::Refusal;
+use tables::{Jobs, Speeds, table_at};
 
 // The number 0 with the sheet, or a refusal's number with an all-zero sheet.
 #[derive(Clone, Copy)]
@@ -22,81 +22,69 @@ pub struct ReadSheet {
     pub sheet: Sheet,
 }
 
-// A refusal: its number and an all-zero sheet.
-fn refused(number: u32) -> ReadSheet
-    ensures { (result.number ≡ number) × (result.sheet ≡ zero_sheet) }
+// What a refused read gives.
+const ZERO_SHEET: Sheet = Sheet {
+    bound: 0,
+    speed_count: 0,
+    speeds: [Speed {
+        speed: 0,
+        energy: 0,
+    }; 9],
+    horizon: 0,
+    job_count: 0,
+    jobs: [Job {
+        weight: 0,
+        size: 0,
+        deadline: 0,
+    }; 32],
+};
+
+// The sheet that the bytes hold, or the first refusal.
+#[tactic(auto, unfolding(model::specs::Reading::read, model::specs::Reading::read_view))]
+fn sheet_at(bytes: &[u8]) -> Result<Sheet, Refusal>
+    ensures { number_and_sheet result ≡ read bytes.now }
 {
-    let speeds = zero_speeds();
-    let jobs = zero_jobs();
-    let sheet = Sheet {
-        bound: 0,
-        speed_count: 0,
-        speeds,
-        horizon: 0,
-        job_count: 0,
-        jobs,
+    // 01 names this form: each sheet field taken apart by `let .. else`, its refusal returned at once.
+    let answer = field_at(bytes, 0);
+    let Ok((bound, next)) = answer else {
+        return Err(answer.unwrap_err());
     };
-    ReadSheet { number, sheet }
-}
-
-// What was read, tested for 9 and 10.
-fn judged(sheet: Sheet) -> ReadSheet
-    requires { fields_refusal (view_of sheet) ≡ 0 }
-    ensures { (result.number ≡ limits_refusal value_limit (N (view_of sheet)) (view_of sheet)) × (result.sheet ≡ sheet_given result.number sheet) }
-{
-    let counts = table();
-    let number = limits_refusal(&counts, sheet);
-    if number != 0 {
-        return refused(number);
+    if !bound_right(bound) {
+        return Err(Refusal::Bound);
     }
-    ReadSheet { number: 0, sheet }
-}
-
-// The sheet made of what was read.
-fn whole(bound: u32, speed_table: SpeedTable, horizon: u32, job_table: JobTable) -> Sheet
-    ensures { result ≡ record { bound = bound; speed_count = speed_table.count; speeds = speed_table.speeds; horizon = horizon; job_count = job_table.count; jobs = job_table.jobs } }
-{
-    let speeds = speed_table.speeds;
-    let jobs = job_table.jobs;
-    Sheet {
+    let ((speed_count, speeds), next) = table_at(&Speeds, bytes, next)?;
+    let answer = field_at(bytes, next);
+    let Ok((horizon, next)) = answer else {
+        return Err(answer.unwrap_err());
+    };
+    if !horizon_right(horizon) {
+        return Err(Refusal::Horizon);
+    }
+    let ((job_count, jobs), next) = table_at(&Jobs { bound }, bytes, next)?;
+    if next < bytes.len() {
+        return Err(Refusal::BytesFollow);
+    }
+    let sheet = Sheet {
         bound,
-        speed_count: speed_table.count,
+        speed_count,
         speeds,
         horizon,
-        job_count: job_table.count,
+        job_count,
         jobs,
-    }
+    };
+    limits_refusal(&Counts::new(), Ranged { sheet })?;
+    Ok(sheet)
 }
 
-// Reads a sheet.
+// Reads a sheet. 01 fixes what it answers: a number and a sheet.
 pub fn read(bytes: &[u8]) -> ReadSheet
     ensures { IsRead bytes.now result.number result.sheet }
 {
-    let answer = field_at(bytes, 0);
-    let Field::Value(bound, at) = answer else {
-        return refused(number_of(answer));
-    };
-    if !bound_right(bound) {
-        return refused(4);
+    match sheet_at(bytes) {
+        Ok(sheet) => ReadSheet { number: 0, sheet },
+        Err(refusal) => ReadSheet {
+            number: refusal.number(),
+            sheet: ZERO_SHEET,
+        },
     }
-    let speeds = speed_table_at(bytes, at);
-    if speeds.number != 0 {
-        return refused(speeds.number);
-    }
-    let answer = field_at(bytes, speeds.next);
-    let Field::Value(horizon, at) = answer else {
-        return refused(number_of(answer));
-    };
-    if !horizon_right(horizon) {
-        return refused(7);
-    }
-    let jobs = job_table_at(bytes, at, bound);
-    if jobs.number != 0 {
-        return refused(jobs.number);
-    }
-    if jobs.next < bytes.len() {
-        return refused(3);
-    }
-    let sheet = whole(bound, speeds, horizon, jobs);
-    judged(sheet)
 }

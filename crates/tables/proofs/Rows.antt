@@ -1,16 +1,16 @@
--- The tables of speeds and of jobs, entry by entry: the entries read so far, followed by those that are read from here on, are all that are
--- read. One set of laws for both, over the entries' type, how many places a table has and what stands in those past the count.
+-- A table, entry by entry: the entries read so far, followed by those that are read from here on, are all that are read.
 use Prim.Native.Nat.{ℕ, zero, suc, ◌+◌, ◌-◌, ◌≤◌, ◌<◌}
 use mathlib.Core.Path.{◌≡◌, refl, ap}
+use mathlib.Core.Bool.{Bool}
 use mathlib.Core.List.{List, [], ◌∷◌, ◌++◌, append_assoc, append-nil}
 use native.Mathlib.Nat.{le_refl, not-suc-le-zero, le_of_suc-le-suc, sub-zero, sub-eq-zero_of_le}
 use native.Mathlib.Numerals.{add-one}
 use native.Mathlib.Omega.{arith}
 use lib.ListN.{length, take, set, replicate, length-append}
 use Rattle.laws.proofs.Readers.{headed}
-use Rattle.model.specs.Reading.{Answer, value, refused, Reader, onward, read_speed, read_speeds, read_job, read_jobs}
+use Rattle.model.specs.Reading.{Answer, value, refused, Reader, onward}
 use Rattle.model.specs.Tests.{padded}
-use Rattle.tables.specs.Answers.{table_answer, in_memory_as}
+use Rattle.tables.specs.Tables.{IsTable, in_memory}
 
 -- places past the end of a list
 
@@ -95,47 +95,27 @@ module _ {A : Type 0} {n place next : ℕ} {z : A} {places : List A} {bytes : Li
       }
 
   -- the next entry is refused: so is the whole
-  pub stops : {k : ℕ} → r bytes next ≡ refused k → whole ≡ refused k
+  pub stops : {k : ℕ} → r bytes next ≡ refused k → refused k ≡ in_memory n z whole
   stops e = rw (s.goes, head_refused h e)
 
 -- no entry is left: the table in memory is the whole
 pub ends : {A : Type 0} {n place count next : ℕ} {z : A} {places : List A} {whole rest : Answer (List A)} →
     SoFar n z place places whole rest → rest ≡ value [] next → place ≡ count →
-    table_answer 0 count places next ≡ in_memory_as (λ l. (length l, padded n z l)) whole
+    value (count, places) next ≡ in_memory n z whole
 ends s d e = rw (s.goes, d, append-nil, s.held, s.many, e)
-
--- the table is refused: its number says so, whatever stands beside it
-pub table_refused : {A B : Type 0} (f : A → ℕ × List B) (count : ℕ) (places : List B) (next : ℕ) {x : Answer A} {k number : ℕ} →
-    x ≡ refused k → 0 < k → number ≡ k → table_answer number count places next ≡ in_memory_as f x
-table_refused f count places next {k = zero} e h d = absurd (not-suc-le-zero h)
-table_refused f count places next {k = suc k} e h d = rw (e, d)
-
--- the two tables
 
 -- what is left at a place, and at the one after it
 left_more : (count place : ℕ) → place < count → count - place ≡ suc (count - (place + 1))
 left_more count place h = omega arith
 
--- while speeds are left, one and then the others
-pub next_speed : (count place before : ℕ) → place < count →
-    Heads (read_speeds (count - place) place before) (read_speed place before)
-    (λ one. read_speeds (count - (place + 1)) (place + 1) one.speed)
-unfolding read_speeds
-next_speed count place before h = record { is = rw (left_more count place h, add-one) }
+module _ {A : Type 0} {none : A} {right : ℕ → Bool} {number : ℕ} {one : ℕ → A → Reader A} {all : ℕ → ℕ → A → Reader (List A)}
+    {whole : Reader (List A)} (h : IsTable none right number one all whole) where
+  -- while entries are left, one and then the others
+  pub next_entry : (count place : ℕ) (before : A) → place < count →
+      Heads (all (count - place) place before) (one place before) (λ entry. all (count - (place + 1)) (place + 1) entry)
+  next_entry count place before k = record { is = rw (left_more count place k, h.some_left, add-one) }
 
--- no speed is left
-pub no_speed_left : (count place before : ℕ) (bytes : List ℕ) (next : ℕ) → count ≤ place →
-    read_speeds (count - place) place before bytes next ≡ value [] next
-unfolding read_speeds
-no_speed_left count place before bytes next h = rw (sub-eq-zero_of_le h)
-
--- while jobs are left, one and then the others
-pub next_job : (D count place : ℕ) → place < count →
-    Heads (read_jobs D (count - place)) (read_job D) (λ one. read_jobs D (count - (place + 1)))
-unfolding read_jobs
-next_job D count place h = record { is = rw (left_more count place h) }
-
--- no job is left
-pub no_job_left : (D count place : ℕ) (bytes : List ℕ) (next : ℕ) → count ≤ place → read_jobs D (count - place) bytes next ≡ value [] next
-unfolding read_jobs
-no_job_left D count place bytes next h = rw (sub-eq-zero_of_le h)
+  -- no entry is left
+  pub no_entry_left : (count place : ℕ) (before : A) (bytes : List ℕ) (next : ℕ) → count ≤ place →
+      all (count - place) place before bytes next ≡ value [] next
+  no_entry_left count place before bytes next k = rw (sub-eq-zero_of_le k, h.none_left)

@@ -1,252 +1,234 @@
 // The tables of a sheet's bytes: one speed with its energy, one job, and as many of them as their count says.
 #![tactic(auto)]
 
-ghost use Rattle.std.specs.Prelude.{◌≡◌, ◌≤◌, replicate};
-ghost use Rattle.fields.specs.Answers.{refusal_number};
-ghost use Rattle.tables.specs.Answers.{speed_answer, job_answer, table_answer, in_memory_as, speed_places, job_places};
+ghost use Rattle.std.specs.Prelude.{◌≡◌, ◌≤◌, ℕ, Bool, List, true};
+ghost use Rattle.fields.specs.Answers.{answer};
+ghost use Rattle.tables.specs.Tables.{IsTable, in_memory};
+ghost use Rattle.tables.specs.Laws.{speeds_mean, jobs_mean, speeds_fit, jobs_fit};
 ghost use Rattle.model.specs.View.{zero_speed, zero_job};
-ghost use Rattle.model.specs.Reading.{read_speed, read_speeds, read_speed_table, read_job, read_jobs, read_job_table};
+ghost use Rattle.model.specs.Reading.{Reader, read_speed, read_speeds, read_speed_table, read_job, read_jobs, read_job_table};
+ghost use Rattle.model.specs.Refusal.{speed_count_right, job_count_right};
+ghost use Rattle.refusals.specs.Numbers.{number_of_refusal};
+ghost use Rattle.refusals.specs.declared.Refusal.{Refusal};
+ghost use Rattle.refusals.specs.declared.Refusal.TheVariants as refusal;
 
-use fields::{Field, field_at, number_of};
+use fields::{Read, field_at};
 use model::{Job, Speed};
 use ranges::{
     deadline_right, energy_right, job_count_right, size_right, speed_count_right, speed_right,
     weight_right,
 };
+use refusals::Refusal;
 
-// A speed with its energy and the next place, or a refusal's number.
-#[derive(Clone, Copy)]
-enum SpeedRead {
-    Value(Speed, usize),
-    Refused(u32),
+// A table in memory: its count, and its places, zero past the count.
+pub type Table<T, const N: usize> = (u32, [T; N]);
+
+// A kind of table with N places: how its count is tested, and how one of its entries is read. The ghost members say which readers of the
+// model these are, and the laws what a table is made of.
+pub trait Entries<const N: usize> {
+    type Entry: Copy;
+
+    // The reader of the entry at a place, after the entry before it.
+    ghost one: { Self → ℕ → Self.Entry → Reader Self.Entry };
+
+    // The reader of so many entries, from a place on, after the entry before it.
+    ghost all: { Self → ℕ → ℕ → Self.Entry → Reader (List Self.Entry) };
+
+    // The reader of the table.
+    ghost table: { Self → Reader (List Self.Entry) };
+
+    ghost count_right: { ℕ → Bool };
+
+    // What stands in a place past the count, and before the first entry.
+    const NONE: Self::Entry;
+
+    ghost NONE: { Self.Entry };
+
+    // What a count out of its range is refused with.
+    const COUNT_REFUSAL: Refusal;
+
+    ghost COUNT_REFUSAL: { Refusal };
+
+    // The count of entries.
+    fn count_right(count: u32) -> bool
+        ensures { result ≡ count_right count };
+
+    // The entry at a place of the table, after the entry before it.
+    fn entry_at(
+        &self,
+        bytes: &[u8],
+        at: usize,
+        place: u32,
+        before: Self::Entry,
+    ) -> Read<Self::Entry>
+        ensures { answer result ≡ one self.now place before bytes.now at };
+
+    ghost count_fits: { (n : ℕ) → count_right n ≡ true → n ≤ N };
+
+    ghost means: { (kind : Self) → IsTable NONE count_right (number_of_refusal COUNT_REFUSAL) (one kind) (all kind) (table kind) };
 }
 
-// The number of a refusal; 0 for a value.
-fn number_of_speed(answer: SpeedRead) -> u32
-    ensures { result ≡ refusal_number (speed_answer answer) }
+// Reads so many entries.
+fn entries_at<E: Entries<N>, const N: usize>(
+    kind: &E,
+    bytes: &[u8],
+    at: usize,
+    count: u32,
+) -> Read<Table<E::Entry, N>>
+    requires { count ≤ N }
+    ensures { answer result ≡ in_memory N E.NONE (E.all kind.now count 0 E.NONE bytes.now at) }
 {
-    match answer {
-        SpeedRead::Value(_, _) => 0,
-        SpeedRead::Refused(number) => number,
+    let mut entries = [E::NONE; N];
+    let mut before = E::NONE;
+    let mut next = at;
+    // An entry is read by its place, so the loop goes over the places.
+    for place in 0..count {
+        let (entry, after) = kind.entry_at(bytes, next, place, before)?;
+        entries[place as usize] = entry;
+        before = entry;
+        next = after;
     }
+    Ok(((count, entries), next))
 }
 
-// The speed at a place of the sheet, after the speed before it.
-fn speed_at(bytes: &[u8], at: usize, place: u32, before: u32) -> SpeedRead
-    ensures { speed_answer result ≡ read_speed place before bytes.now at }
+// A table: the count of entries, and the entries.
+pub fn table_at<E: Entries<N>, const N: usize>(
+    kind: &E,
+    bytes: &[u8],
+    at: usize,
+) -> Read<Table<E::Entry, N>>
+    ensures { answer result ≡ in_memory N E.NONE (E.table kind.now bytes.now at) }
 {
+    // 01 names this form: each sheet field taken apart by `let .. else`, its refusal returned at once.
     let answer = field_at(bytes, at);
-    let Field::Value(speed, at) = answer else {
-        return SpeedRead::Refused(number_of(answer));
+    let Ok((count, next)) = answer else {
+        return Err(answer.unwrap_err());
     };
-    if !speed_right(place, before, speed) {
-        return SpeedRead::Refused(5);
+    if !E::count_right(count) {
+        return Err(E::COUNT_REFUSAL);
     }
-    let answer = field_at(bytes, at);
-    let Field::Value(energy, at) = answer else {
-        return SpeedRead::Refused(number_of(answer));
-    };
-    if !energy_right(energy) {
-        return SpeedRead::Refused(6);
-    }
-    SpeedRead::Value(Speed { speed, energy }, at)
+    entries_at(kind, bytes, next, count)
 }
 
-// A table of speeds, zero past its count, with the number 0 and the next place; or, where it is refused, the refusal's number. A struct,
-// since an enum cannot hold an array.
+// The speeds of a sheet with their energies.
 #[derive(Clone, Copy)]
-pub struct SpeedTable {
-    pub number: u32,
-    pub next: usize,
-    pub count: u32,
-    pub speeds: [Speed; 9],
-}
+pub struct Speeds;
 
-// No speed in any place.
-pub fn zero_speeds() -> [Speed; 9]
-    ensures { result ≡ replicate 9 zero_speed }
-{
-    [Speed {
+impl Entries<9> for Speeds {
+    type Entry = Speed;
+
+    ghost one = { λ _ place before. read_speed place before.speed };
+
+    ghost all = { λ _ left place before. read_speeds left place before.speed };
+
+    ghost table = { λ _. read_speed_table };
+
+    ghost count_right = { speed_count_right };
+
+    const NONE: Speed = Speed {
         speed: 0,
         energy: 0,
-    }; 9]
-}
+    };
 
-// No table, but the refusal's number.
-fn no_speeds(number: u32) -> SpeedTable
-    ensures { result.number ≡ number }
-{
-    let speeds = zero_speeds();
-    SpeedTable {
-        number,
-        next: 0,
-        count: 0,
-        speeds,
+    ghost NONE = { zero_speed };
+
+    const COUNT_REFUSAL: Refusal = Refusal::Speeds;
+
+    ghost COUNT_REFUSAL = { refusal.Speeds };
+
+    fn count_right(count: u32) -> bool {
+        speed_count_right(count)
     }
-}
 
-// Reads so many speeds.
-fn speeds_at(bytes: &[u8], at: usize, count: u32) -> SpeedTable
-    requires { count ≤ 9 }
-    ensures { table_answer result.number result.count result.speeds result.next ≡ in_memory_as speed_places (read_speeds count 0 0 bytes.now at) }
-{
-    let mut speeds = zero_speeds();
-    let mut next = at;
-    let mut before = 0;
-    let mut place = 0;
-    while place < count {
-        let answer = speed_at(bytes, next, place, before);
-        let SpeedRead::Value(one, after) = answer else {
-            return no_speeds(number_of_speed(answer));
+    #[tactic(auto, unfolding(model::specs::Reading::read_speed))]
+    fn entry_at(&self, bytes: &[u8], at: usize, place: u32, before: Speed) -> Read<Speed> {
+        let answer = field_at(bytes, at);
+        let Ok((speed, next)) = answer else {
+            return Err(answer.unwrap_err());
         };
-        speeds[place as usize] = one;
-        before = one.speed;
-        next = after;
-        place += 1;
+        if !speed_right(place, before.speed, speed) {
+            return Err(Refusal::Speeds);
+        }
+        let answer = field_at(bytes, next);
+        let Ok((energy, next)) = answer else {
+            return Err(answer.unwrap_err());
+        };
+        if !energy_right(energy) {
+            return Err(Refusal::Energy);
+        }
+        Ok((Speed { speed, energy }, next))
     }
-    SpeedTable {
-        number: 0,
-        next,
-        count,
-        speeds,
-    }
+
+    ghost count_fits = { speeds_fit };
+
+    ghost means = { λ _. speeds_mean };
 }
 
-// The count of speeds, and the speeds.
-pub fn speed_table_at(bytes: &[u8], at: usize) -> SpeedTable
-    ensures { table_answer result.number result.count result.speeds result.next ≡ in_memory_as speed_places (read_speed_table bytes.now at) }
-{
-    let answer = field_at(bytes, at);
-    let Field::Value(count, at) = answer else {
-        return no_speeds(number_of(answer));
-    };
-    if !speed_count_right(count) {
-        return no_speeds(5);
-    }
-    speeds_at(bytes, at, count)
-}
-
-// A job and the next place, or a refusal's number.
+// The jobs of a sheet with this deadline bound.
 #[derive(Clone, Copy)]
-enum JobRead {
-    Value(Job, usize),
-    Refused(u32),
+pub struct Jobs {
+    pub bound: u32,
 }
 
-// The number of a refusal; 0 for a value.
-fn number_of_job(answer: JobRead) -> u32
-    ensures { result ≡ refusal_number (job_answer answer) }
-{
-    match answer {
-        JobRead::Value(_, _) => 0,
-        JobRead::Refused(number) => number,
-    }
-}
+impl Entries<32> for Jobs {
+    type Entry = Job;
 
-// A job of a sheet with this deadline bound.
-fn job_at(bytes: &[u8], at: usize, bound: u32) -> JobRead
-    ensures { job_answer result ≡ read_job bound bytes.now at }
-{
-    let answer = field_at(bytes, at);
-    let Field::Value(weight, at) = answer else {
-        return JobRead::Refused(number_of(answer));
-    };
-    if !weight_right(weight) {
-        return JobRead::Refused(8);
-    }
-    let answer = field_at(bytes, at);
-    let Field::Value(size, at) = answer else {
-        return JobRead::Refused(number_of(answer));
-    };
-    if !size_right(size) {
-        return JobRead::Refused(8);
-    }
-    let answer = field_at(bytes, at);
-    let Field::Value(deadline, at) = answer else {
-        return JobRead::Refused(number_of(answer));
-    };
-    if !deadline_right(bound, deadline) {
-        return JobRead::Refused(8);
-    }
-    JobRead::Value(
-        Job {
-            weight,
-            size,
-            deadline,
-        },
-        at,
-    )
-}
+    ghost one = { λ kind _ _. read_job kind.bound };
 
-// A table of jobs, zero past its count, with the number 0 and the next place; or, where it is refused, the refusal's number. A struct,
-// since an enum cannot hold an array.
-#[derive(Clone, Copy)]
-pub struct JobTable {
-    pub number: u32,
-    pub next: usize,
-    pub count: u32,
-    pub jobs: [Job; 32],
-}
+    ghost all = { λ kind left _ _. read_jobs kind.bound left };
 
-// No job in any place.
-pub fn zero_jobs() -> [Job; 32]
-    ensures { result ≡ replicate 32 zero_job }
-{
-    [Job {
+    ghost table = { λ kind. read_job_table kind.bound };
+
+    ghost count_right = { job_count_right };
+
+    const NONE: Job = Job {
         weight: 0,
         size: 0,
         deadline: 0,
-    }; 32]
-}
-
-// No table, but the refusal's number.
-fn no_jobs(number: u32) -> JobTable
-    ensures { result.number ≡ number }
-{
-    let jobs = zero_jobs();
-    JobTable {
-        number,
-        next: 0,
-        count: 0,
-        jobs,
-    }
-}
-
-// Reads so many jobs of a sheet with this deadline bound.
-fn jobs_at(bytes: &[u8], at: usize, bound: u32, count: u32) -> JobTable
-    requires { count ≤ 32 }
-    ensures { table_answer result.number result.count result.jobs result.next ≡ in_memory_as job_places (read_jobs bound count bytes.now at) }
-{
-    let mut jobs = zero_jobs();
-    let mut next = at;
-    let mut place = 0;
-    while place < count {
-        let answer = job_at(bytes, next, bound);
-        let JobRead::Value(one, after) = answer else {
-            return no_jobs(number_of_job(answer));
-        };
-        jobs[place as usize] = one;
-        next = after;
-        place += 1;
-    }
-    JobTable {
-        number: 0,
-        next,
-        count,
-        jobs,
-    }
-}
-
-// The count of jobs, and the jobs.
-pub fn job_table_at(bytes: &[u8], at: usize, bound: u32) -> JobTable
-    ensures { table_answer result.number result.count result.jobs result.next ≡ in_memory_as job_places (read_job_table bound bytes.now at) }
-{
-    let answer = field_at(bytes, at);
-    let Field::Value(count, at) = answer else {
-        return no_jobs(number_of(answer));
     };
-    if !job_count_right(count) {
-        return no_jobs(8);
+
+    ghost NONE = { zero_job };
+
+    const COUNT_REFUSAL: Refusal = Refusal::Jobs;
+
+    ghost COUNT_REFUSAL = { refusal.Jobs };
+
+    fn count_right(count: u32) -> bool {
+        job_count_right(count)
     }
-    jobs_at(bytes, at, bound, count)
+
+    #[tactic(auto, unfolding(model::specs::Reading::read_job))]
+    fn entry_at(&self, bytes: &[u8], at: usize, _place: u32, _before: Job) -> Read<Job> {
+        let answer = field_at(bytes, at);
+        let Ok((weight, next)) = answer else {
+            return Err(answer.unwrap_err());
+        };
+        if !weight_right(weight) {
+            return Err(Refusal::Jobs);
+        }
+        let answer = field_at(bytes, next);
+        let Ok((size, next)) = answer else {
+            return Err(answer.unwrap_err());
+        };
+        if !size_right(size) {
+            return Err(Refusal::Jobs);
+        }
+        let answer = field_at(bytes, next);
+        let Ok((deadline, next)) = answer else {
+            return Err(answer.unwrap_err());
+        };
+        if !deadline_right(self.bound, deadline) {
+            return Err(Refusal::Jobs);
+        }
+        let job = Job {
+            weight,
+            size,
+            deadline,
+        };
+        Ok((job, next))
+    }
+
+    ghost count_fits = { jobs_fit };
+
+    ghost means = { λ kind. jobs_mean kind.bound };
 }
