@@ -10,12 +10,7 @@ pub fn lay(buffer: &mut [u8], at: usize, bytes: &[u8]) -> usize
     requires { at + length bytes.now ≤ length buffer.old }
     ensures { Laid at bytes.now buffer.old buffer.new result }
 {
-    let mut next = at;
-    let mut place = 0;
-    while place < bytes.len() {
-        buffer[next] = bytes[place];
-        next += 1;
-        place += 1;
-    }
+    let next = at + bytes.len();
+    buffer[at..next].copy_from_slice(bytes);
     next
 }

@@ -1,6 +1,7 @@
 -- What the operations on one value, a whole number or none, promise, over any width (model/specs/Width.antt). The code of this crate has
 -- one width (Narrow.antt).
 use Rattle.std.specs.Prelude.{ℕ, Bool, true, false, ltb}
+use Rattle.std.specs.Prelude as code
 use Rattle.std.proofs.Math.Option.{Option, none, some}
 use Rattle.process.specs.Recursion.{UptoOr}
 use Rattle.model.specs.Width.{Width}
@@ -19,3 +20,8 @@ abbrev pub less_than : Option ℕ → Option ℕ → Bool
 less_than none r = false
 less_than (some v) none = true
 less_than (some v) (some u) = ltb v u
+
+-- an Option of the code as a value
+abbrev pub option_of : code.Option ℕ → Option ℕ
+option_of code.None = none
+option_of (code.Some v) = some v
