@@ -14,19 +14,18 @@ use Rattle.process.proofs.Sums as sums
 use Rattle.process.proofs.Value.{UptoOr, upto_or_le, sum_upto}
 use Rattle.model.specs.View.{View, weight_at, size_at, deadline_at, W}
 use Rattle.model.specs.Queue.{Queue, NeverFalls, bearable}
-use Rattle.model.specs.Refusal.{fields_refusal}
 use Rattle.model.proofs.Refusal.{W_is}
 use Rattle.model.proofs.Tests.{fails_false}
 use Rattle.slot.proofs.Slots.{arrive_not_bearable}
 use Rattle.buffers.specs.Fills.{Fills}
 use Rattle.model.specs.Width.{Width, value_in}
-use Rattle.value.proofs.Decoding.{bound_fits}
+use Rattle.value.proofs.Decoding.{bound_fits, fits_number}
 use Rattle.buffers.proofs.Filling.{fills_same}
 use Rattle.rows.specs.Rows.{after_with, RowOf}
 use Rattle.sheets.specs.Sizes.{Measured}
 use Rattle.sheets.specs.declared.sizes.Sizes.{Sizes}
 use Rattle.rows.proofs.Rows.{row_says}
-use Rattle.entry_lanes.specs.Lanes.{joined, EntryTable}
+use Rattle.entry_lanes.specs.Lanes.{joined}
 use Rattle.ahead.specs.Pass.{Given, sum_left}
 use Rattle.ahead.specs.Sums.{sum_to}
 use Rattle.ahead.proofs.Adding.{sum_same, sum_none}
@@ -68,17 +67,14 @@ module _ (width : Width) (s : View) {sizes : Sizes} (m : Measured sizes) (f : Qu
       (λ j. row_says width sizes.largest sizes.bound f next values row _ (joined_long m s h j))
 
   -- what it is given, where the function's bound times W passes no limit of a value
-  pub given_for : {lanes : List ℕ} (most : ℕ) → fields_refusal s ≡ 0 → EntryTable sizes.largest sizes.bound s lanes →
-      ((w : Queue) → UptoOr (Unit {0}) (f w) most) → most * W s ≤ width.limit → Given width s sizes lanes next values
-  given_for most fields table upto low =
+  pub given_for : (most : ℕ) → ((w : Queue) → UptoOr (Unit {0}) (f w) most) → most * W s ≤ width.limit → Given width s sizes next values
+  given_for most upto low =
       record {
-        fields = fields;
-        measured = m;
-        table = table;
         room = subst (λ (n : ℕ). (next + n) * width.places ≤ length values) (sym m.queues_is) row.row.room;
-        fits = λ i n h k.
-            let v = after_with sizes.largest sizes.bound i in
-            rw (sums_told i n h) (bound_fits width (sum_to s f v n) (sums_upto s f most upto v n k) low);
+        fits = λ i n v h k here.
+            let q = after_with sizes.largest sizes.bound i in
+            fits_number width (sum_to s f q n) v (sym (sums_told i n h) ∙ here)
+            (bound_fits width (sum_to s f q n) (sums_upto s f most upto q n k) low);
       }
 
   -- what it leaves: the sums of the function

@@ -1,23 +1,19 @@
 -- Queues in their six places, as the calls of this crate know them: the first queue of a block of queues after a slot, in which the last
 -- total stands twice; a queue with an arrival; and for how many steps a queue stays bearable.
 use Prim.Native.Nat.{ℕ, zero, suc, pred, min, ◌+◌, ◌*◌, ◌-◌, ◌≤◌, ◌<◌}
-use mathlib.Core.Path.{◌≡◌, refl, sym, ap, ◌∙◌, subst}
+use mathlib.Core.Path.{◌≡◌, refl, sym, ap, ◌∙◌}
 use mathlib.Core.List.{List, []}
-use native.Mathlib.Nat.{not-suc-le-zero, le_refl, suc-mul, mul-le-mul_right}
+use native.Mathlib.Nat.{not-suc-le-zero, le_refl, suc-mul}
 use native.Mathlib.Numerals.{add-one}
 use native.Mathlib.Omega.{arith}
 use lib.Dec.{T}
 use lib.ListN.{length, get_or, set}
 use lib.Seq.{take_all, take-append-le}
-use Rattle.model.specs.View.{view_of, zero_job}
-use Rattle.model.specs.Refusal.{fields_refusal}
+use Rattle.model.specs.View.{View, zero_job}
 use Rattle.model.specs.declared.Job.{Job}
-use Rattle.model.specs.declared.Sheet.{Sheet}
 use Rattle.model.specs.Queue.{Queue, total, queue_in, places_of, bearable, queue_count, arrive}
 use Rattle.model.proofs.Queues.{in_first_places, length_in, length_arrive, bearable_all, bearable_upto, listed_bearable}
-use Rattle.model.proofs.Refusal.{ranged}
 use Rattle.model.proofs.Tests.{holds_true}
-use Rattle.limits.proofs.Places.{job_counts}
 use Rattle.queues.specs.Blocks.{queue_with, first_of, lowest_of}
 use Rattle.queues.specs.Order.{Numbered}
 use Rattle.slot.specs.Slot.{Small, last_twice}
@@ -96,28 +92,19 @@ after_in {sizes} {b} {queue} m h e =
       last_high = omega (arith, lowest_upto M (pred D) b block);
     }
 
--- an entry's size is small enough to be added
-pub size_upto : (sheet : Sheet) (j : ℕ) → fields_refusal (view_of sheet) ≡ 0 → j < sheet.job_count →
-    (get_or sheet.jobs j zero_job).size ≤ 255
-size_upto sheet j right h = subst (λ (one : Job). one.size ≤ 255) (job_counts sheet j h) ((ranged (view_of sheet) right).size_high j h)
-
 -- a queue with the arrival of the entry at place j stands in the places that `arrive` answers
-pub joined_in : (sheet : Sheet) (D : ℕ) (places : List ℕ) (j : ℕ) {with : List ℕ} → D ≤ 6 → length places ≡ 6 → j < sheet.job_count →
-    (let one = get_or sheet.jobs j zero_job in with ≡ places_of (arrive (queue_in D places) one.size one.deadline)) →
-    queue_in D with ≡ joined (view_of sheet) (queue_in D places) j
-joined_in sheet D places j few six h e =
+pub joined_in : (s : View) (D : ℕ) (places : List ℕ) (j : ℕ) {jobs : List Job} {with : List ℕ} → D ≤ 6 → length places ≡ 6 → jobs ≡ s.jobs →
+    (let one = get_or jobs j zero_job in with ≡ places_of (arrive (queue_in D places) one.size one.deadline)) →
+    queue_in D with ≡ joined s (queue_in D places) j
+joined_in s D places j few six same e =
     let w = queue_in D places in
     ap (queue_in D) e ∙ in_first_places D (arrive w _ _) (length_arrive w _ _ ∙ length_in D places (omega arith)) few ∙
-    ap (λ (one : Job). arrive w one.size one.deadline) (sym (job_counts sheet j h))
+    ap (λ (jobs : List Job). arrive w (get_or jobs j zero_job).size (get_or jobs j zero_job).deadline) same
 
 -- (D-1) times M, as the code works it out
 pub most_fewer : (M D : ℕ) → 1 ≤ D → D * M - M ≡ pred D * M
 most_fewer M zero low = absurd (not-suc-le-zero low)
 most_fewer M (suc d) low = omega (arith, suc-mul d M)
-
--- M is no more than D times M
-pub largest_upto : {sizes : Sizes} → Measured sizes → sizes.largest ≤ sizes.bound * sizes.largest
-largest_upto {sizes} m = omega (arith, mul-le-mul_right sizes.largest m.bound_low)
 
 -- the steps of a bearable queue, as the code works them out from its places, where no difference is below 0
 pub record StepsIn (M D : ℕ) (places : List ℕ) : Type 0 where

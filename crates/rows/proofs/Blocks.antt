@@ -4,7 +4,7 @@ use Prim.Native.Nat.{ℕ, suc, pred, ◌+◌, ◌*◌, ◌-◌, ◌≤◌, ◌<�
 use mathlib.Core.Path.{◌≡◌, sym, ap, subst}
 use mathlib.Core.List.{List}
 use mathlib.Core.Logic.{◌⊎◌, inl, inr}
-use native.Mathlib.Nat.{not-suc-le-zero, eq-or-lt_of_le}
+use native.Mathlib.Nat.{eq-or-lt_of_le}
 use native.Mathlib.Omega.{arith}
 use Rattle.model.specs.Queue.{queue_count}
 use Rattle.queues.specs.Blocks.{lowest_of, last_of, block_of, number_in, InBlock, InBlocks}
@@ -48,10 +48,6 @@ module _ {A : Type 0} {places : ℕ} {reader : List ℕ → ℕ → A} (local : 
         split i q (inr l) = inl (record { within = q.within; block_is = q.block_is; last_low = l })
 
   -- of the row
-
-  -- nothing is filled
-  pub blocks_none : {l : List ℕ} → FillsWhere places reader f from (InBlocks M d 0) l l
-  blocks_none = where_none places reader (λ n i. absurd (not-suc-le-zero i.block_low))
 
   -- one block more, up to its highest last total
   pub blocks_more : {b : ℕ} {l₀ l₁ l₂ : List ℕ} → b < queue_count M (pred d) →

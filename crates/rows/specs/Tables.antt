@@ -34,3 +34,11 @@ pub record LinesPut (c n blocks : ℕ) (line : ℕ → ℕ → ℕ) (l₀ l : Li
 pub record Table (c n blocks : ℕ) (first second : ℕ → ℕ) (line : ℕ → ℕ → ℕ) (l : List ℕ) : Type 0 where
   pub columns : Columns c n first second l
   pub lines : Lines c n blocks line l
+
+-- a line as it is found: its three numbers, and its n lanes
+pub record IsLine (n : ℕ) (line : ℕ → ℕ) (number lowest third : ℕ) (lanes : List ℕ) : Type 0 where
+  pub number_is : number ≡ line 0
+  pub lowest_is : lowest ≡ line 1
+  pub third_is : third ≡ line 2
+  pub long : length lanes ≡ n
+  pub lane_is : (j : ℕ) → j < n → get_or lanes j 0 ≡ line (suc (suc (suc j)))

@@ -8,7 +8,7 @@ use mathlib.Core.List.{List}
 use mathlib.Core.Logic.{⊎_elim}
 use native.Mathlib.Nat.{not-suc-le-zero, eq-or-lt_of_le, le_refl}
 use native.Mathlib.Omega.{arith}
-use borrow.Author.Tests.{le-leb, lt-leb}
+use borrow.Author.Tests.{le-leb}
 use lib.Dec.{T, leb, leb→le, le→leb}
 use lib.ListN.{length, get_or}
 use Rattle.model.specs.Queue.{Queue, total, NeverFalls, NoLonger, queue_in, places_of, bearable, number_of, run}
@@ -75,11 +75,7 @@ module _ (M D : ℕ) (w : Queue) (s : ℕ) where
 
 -- from the queue in the first places
 module _ (M D : ℕ) (places : List ℕ) (s : ℕ) (low : 1 ≤ D) where
-  -- a speed below w(1) does not
-  pub leads_slow : s < get_or places 0 0 → leads_on M D (queue_in D places) s ≡ false
-  leads_slow h = rw (lt-leb (total (queue_in D places) 1) s (omega (arith, total_in D places 1 low)))
-
-  -- any other does where the queue after the slot is bearable
+  -- a speed that is not below w(1) does where the queue after the slot is bearable
   pub leads_fast : get_or places 0 0 ≤ s → leads_on M D (queue_in D places) s ≡ bearable M (after_of D (queue_in D places) s)
   leads_fast h = rw (le-leb (total (queue_in D places) 1) s (omega (arith, total_in D places 1 low)))
 

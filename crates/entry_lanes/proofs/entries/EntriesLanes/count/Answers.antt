@@ -1,0 +1,7 @@
+-- `count` meets its contract: the sheet is tested.
+use mathlib.Core.Path.{refl}
+use Rattle.model.proofs.Refusal.{ranged}
+use Rattle.entry_lanes.proofs.entries.EntriesLanes.count.Goals as goal
+
+pub returns : goal.returns
+returns c = (refl, (ranged _ c.args.self.now.tested.now.fields).jobs_high)
