@@ -1,13 +1,15 @@
 // Where a slot and a queue stand, and the test that every call that is lent a plan makes first: 4 to 10, then 11.
-ghost use Rattle.std.specs.Prelude.{◌≡◌, ◌≤◌};
+ghost use Rattle.std.specs.Prelude.{◌≡◌, ◌≤◌, IfOk};
 ghost use Rattle.model.specs.View.{view_of};
 ghost use Rattle.model.specs.Plan.{row_refusal};
-ghost use Rattle.counts.specs.Counts.{HoldsCounts};
+ghost use Rattle.refusals.specs.Numbers.{number_of};
+ghost use Rattle.sheets.specs.Sizes.{Sized};
 ghost use Rattle.layout.specs.Places.{place_in};
 
-use limits::queues_of;
+use counts::Counts;
 use model::Sheet;
-use sheets::sheet_refusal;
+use refusals::Refusal;
+use sheets::Tested;
 
 // The place of a slot and a queue, in the values and in the plan: each row has as many places as there are queues.
 pub fn place(queues: usize, slot: u32, queue: usize) -> usize
@@ -17,18 +19,15 @@ pub fn place(queues: usize, slot: u32, queue: usize) -> usize
     slot as usize * queues + queue
 }
 
-// 4 to 10, then 11 where the lent plan is too short for T rows.
-pub fn row_refusal(counts: &[u32; 2352], sheet: Sheet, room: usize) -> u32
-    requires { HoldsCounts counts.now }
-    ensures { result ≡ row_refusal (view_of sheet) room }
+// The sheet that goes with a lent plan of so many bytes, once it is tested: 4 to 10, then 11 where the plan is too short for T rows.
+#[tactic(auto, unfolding(model::specs::Plan::row_lines))]
+pub fn tested_for(counts: &Counts, sheet: Sheet, room: usize) -> Result<Tested, Refusal>
+    ensures number { number_of result ≡ row_refusal (view_of sheet) room }
+    ensures sized { IfOk result (λ tested. (tested.sheet ≡ sheet) × Sized (view_of sheet) tested.sizes) }
 {
-    let number = sheet_refusal(counts, sheet);
-    if number != 0 {
-        return number;
+    let tested = Tested::new(counts, sheet)?;
+    if room < place(tested.sizes.queues, sheet.horizon, 0) {
+        return Err(Refusal::Room);
     }
-    let queues = queues_of(counts, sheet);
-    if room < place(queues, sheet.horizon, 0) {
-        return 11;
-    }
-    0
+    Ok(tested)
 }

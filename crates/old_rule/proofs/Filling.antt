@@ -1,78 +1,96 @@
 -- How the rows of the rule's plan are filled, byte by byte: the first row with the speed that the rule sets in each queue, every later byte
 -- as it stands one row before; and the queue of a number, as the code finds it.
-use Prim.Native.Nat.{ℕ, zero, suc, ◌+◌, ◌-◌, ◌≤◌, ◌<◌}
-use mathlib.Core.Path.{◌≡◌, refl, sym, ap, ◌∙◌, subst}
+use Prim.Native.Nat.{ℕ, zero, suc, ◌+◌, ◌*◌, ◌-◌, ◌≤◌, ◌<◌}
+use mathlib.Core.Path.{◌≡◌, sym, ap, ◌∙◌, subst}
 use mathlib.Core.List.{List, []}
-use mathlib.Core.Logic.{⊎_elim}
-use native.Mathlib.Nat.{eq-or-lt_of_le, not-suc-le-zero, suc-mul, mul-le-mul_right}
+use mathlib.Core.Logic.{◌⊎◌, inl, inr}
+use native.Mathlib.Numerals.{add-one}
+use native.Mathlib.Nat.{suc-mul, mul-le-mul_right}
 use native.Mathlib.Omega.{arith}
 use lib.Dec.{T}
-use lib.ListN.{length, get_or, set, length-set}
-use lib.Seq.{get_or-set_same, get_or-set_other}
+use mathlib.Core.List.{◌++◌}
+use lib.Seq.{get_or-append_right, get_or-drop}
+use lib.ListN.{get_or-append, length-append, length-drop, drop, length, get_or}
+use Rattle.std.specs.List.{CopiedTo, SameBelow, SameFrom}
+use Rattle.std.proofs.lemmas.Bool.{cases_order}
+use Rattle.std.proofs.lemmas.Nat.{mul-add-lt}
 use Rattle.model.specs.View.{View, M}
 use Rattle.model.specs.Queue.{Queue, queue_in, places_of, bearable, bearable_queues, queue_count}
-use Rattle.model.specs.Plan.{queue_at, place_at, plan_needed}
+use Rattle.model.specs.Plan.{queue_at, place_at, byte_at, plan_needed}
 use Rattle.model.specs.Refusal.{N}
 use Rattle.model.specs.Pricing.{IsRuleSpeed}
 use Rattle.model.proofs.Queues.{listed_bearable, in_first_places}
-use Rattle.model.proofs.Refusal.{Ranged, accepted, N_is, M_high}
+use Rattle.model.proofs.Refusal.{Ranged, N_is, M_high}
 use Rattle.model.proofs.View.{speed_upto}
 use Rattle.sheets.specs.declared.sizes.Sizes.{Sizes}
 use Rattle.sheets.proofs.Measures.{sized_same}
-use Rattle.old_rule.specs.Rows.{Prepared, FilledTo}
+use Rattle.sheets.specs.Sizes.{Sized}
+use Rattle.old_rule.specs.Rows.{FilledTo}
 
 module _ (s : View) where
-  -- nothing is filled
-  pub filled_none : (plan : List ℕ) → FilledTo s 0 plan plan
-  filled_none plan = record { same_length = refl; right = λ t i h l. absurd (not-suc-le-zero l); outside = λ p h. refl }
+  -- the first row is filled: the rule's speeds, and behind them what stood there
+  module _ (queues : ℕ) (plan row : List ℕ) (queues_is : queues ≡ N s) (fits : queues ≤ length plan) (long : length row ≡ queues)
+      (speeds : (i : ℕ) → i < queues → IsRuleSpeed s (queue_at s i) (get_or row i 0)) where
+    at_first : (t i : ℕ) → place_at s t i < N s → place_at s t i ≡ i
+    at_first zero i l = omega arith
+    at_first (suc t) i l = absurd (omega (arith, suc-mul t (N s)))
 
-  module _ {n speed : ℕ} {plan₀ plan : List ℕ} (room : n < length plan) (filled : FilledTo s n plan₀ plan) where
-    -- one byte more, which is right for whatever slot and queue stand at its place
-    filled_more : ((t i : ℕ) → i < N s → place_at s t i ≡ n → IsRuleSpeed s (queue_at s i) speed) → FilledTo s (n + 1) plan₀ (set plan n speed)
-    filled_more here =
+    behind_first : (p : ℕ) → N s ≤ p → get_or (row ++ drop queues plan) p 0 ≡ get_or plan p 0
+    behind_first p h =
+        let back : queues + (p - length row) ≡ p = omega arith in
+        get_or-append_right row (drop queues plan) p 0 (omega arith) ∙ get_or-drop queues plan (p - length row) 0 ∙ ap (λ (q : ℕ). get_or plan q 0) back
+
+    pub first_filled : FilledTo s (N s) plan (row ++ drop queues plan)
+    first_filled =
         record {
-          same_length = length-set plan n speed ∙ filled.same_length;
+          same_length = omega (arith, length-append row (drop queues plan), length-drop queues plan);
           right = λ t i h l.
-              ⊎_elim
-              (λ q. subst (IsRuleSpeed s (queue_at s i))
-              (sym (ap (λ (p : ℕ). get_or (set plan n speed) p 0) q ∙ get_or-set_same plan n speed 0 room)) (here t i h q))
-              (λ k. subst (IsRuleSpeed s (queue_at s i)) (sym (get_or-set_other plan n (place_at s t i) speed 0 (λ q. omega arith)))
-              (filled.right t i h k)) (eq-or-lt_of_le (omega arith));
-          outside = λ p h. get_or-set_other plan n p speed 0 (λ q. omega arith) ∙ filled.outside p (omega arith);
+              subst (IsRuleSpeed s (queue_at s i))
+              (sym
+              (ap (λ (p : ℕ). get_or (row ++ drop queues plan) p 0) (at_first t i l) ∙
+              get_or-append row (drop queues plan) 0 i (omega arith)))
+              (speeds i (omega arith));
+          outside = behind_first;
         }
 
-    -- in the first row: the rule's speed in the queue with that number
-    pub filled_first : n < N s → IsRuleSpeed s (queue_at s n) speed → FilledTo s (n + 1) plan₀ (set plan n speed)
-    filled_first low right = filled_more (λ t i h q. subst (λ (j : ℕ). IsRuleSpeed s (queue_at s j) speed) (same t i q) right)
+  -- one row more: a copy of the first, behind all that is filled
+  module _ (slot place count : ℕ) (plan₀ plan plan₁ : List ℕ) (behind : 1 ≤ slot) (place_is : place ≡ slot * N s) (count_is : count ≡ N s)
+      (filled : FilledTo s (slot * N s) plan₀ plan) (long : length plan₁ ≡ length plan)
+      (copied : CopiedTo plan plan₁ 0 place (count - 0) × SameBelow plan plan₁ place × SameFrom plan plan₁ (place + (count - 0))) where
+    -- a place of a slot before another's row
+    before_row : (t next i : ℕ) → i < N s → t < next → place_at s t i < next * N s
+    before_row t next i h l = omega (arith, mul-add-lt t (N s) i next l h)
+
+    -- a slot before it keeps its bytes
+    kept : (t i : ℕ) → i < N s → t < slot → IsRuleSpeed s (queue_at s i) (byte_at s plan₁ t i)
+    kept t i h l =
+        let before = before_row t slot i h l in
+        subst (IsRuleSpeed s (queue_at s i)) (sym (copied.1 (place_at s t i) 0 (omega arith))) (filled.right t i h before)
+
+    -- and it has those of slot 0
+    fresh : (i : ℕ) → i < N s → IsRuleSpeed s (queue_at s i) (byte_at s plan₁ slot i)
+    fresh i h =
+        let first : 0 + (place_at s slot i - place) ≡ place_at s 0 i = omega arith in
+        subst (IsRuleSpeed s (queue_at s i))
+        (sym (copied.0 (place_at s slot i) 0 (omega arith) (omega arith) ∙ ap (λ (p : ℕ). get_or plan p 0) first))
+        (filled.right 0 i h (before_row 0 slot i h behind))
+
+    pub filled_row : FilledTo s ((slot + 1) * N s) plan₀ plan₁
+    filled_row =
+        record {
+          same_length = long ∙ filled.same_length;
+          right = λ t i h l. by t i h l (cases_order t slot);
+          outside = λ p h. copied.2 p 0 (omega (arith, next_row)) ∙ filled.outside p (omega (arith, next_row));
+        }
       where
-        same : (t i : ℕ) → place_at s t i ≡ n → n ≡ i
-        same zero i q = omega arith
-        same (suc t) i q = absurd (omega (arith, suc-mul t (N s)))
+        next_row : (slot + 1) * N s ≡ slot * N s + N s
+        next_row = omega (arith, suc-mul slot (N s), add-one slot)
 
-    -- behind it: the byte that stands one row before
-    pub filled_later : N s ≤ n → speed ≡ get_or plan (n - N s) 0 → FilledTo s (n + 1) plan₀ (set plan n speed)
-    filled_later high copied = filled_more above
-      where
-        above : (t i : ℕ) → i < N s → place_at s t i ≡ n → IsRuleSpeed s (queue_at s i) speed
-        above zero i h q = absurd (omega arith)
-        above (suc t) i h q =
-            let before : place_at s t i ≡ n - N s = omega (arith, suc-mul t (N s)) in
-            subst (IsRuleSpeed s (queue_at s i)) (ap (λ (p : ℕ). get_or plan p 0) before ∙ sym copied) (filled.right t i h (omega arith))
-
--- the loop that copies the rows has no sheet at hand. What it keeps: whatever sheet of so many queues the first row is right for, the plan
--- is filled that far
-abbrev pub CopiedTo : (queues n : ℕ) → (first plan : List ℕ) → Type 0
-CopiedTo queues n first plan = (s : View) (plan₀ : List ℕ) → queues ≡ N s → FilledTo s (N s) plan₀ first → FilledTo s n plan₀ plan
-
--- nothing is copied
-pub copied_none : {queues : ℕ} (first : List ℕ) → CopiedTo queues queues first first
-copied_none first s plan₀ e filled = subst (λ (n : ℕ). FilledTo s n plan₀ first) (sym e) filled
-
--- one byte more
-pub copied_more : {queues n : ℕ} {first plan : List ℕ} → n < length plan → queues ≤ n → CopiedTo queues n first plan →
-    CopiedTo queues (n + 1) first (set plan n (get_or plan (n - queues) 0))
-copied_more {n = n} {plan = plan} room high copied s plan₀ e filled =
-    filled_later s room (copied s plan₀ e filled) (omega arith) (ap (λ (k : ℕ). get_or plan (n - k) 0) e)
+        by : (t i : ℕ) → i < N s → place_at s t i < (slot + 1) * N s → (t ≡ slot) ⊎ ((t < slot) ⊎ (slot < t)) →
+            IsRuleSpeed s (queue_at s i) (byte_at s plan₁ t i)
+        by t i h l (inl q) = subst (λ (r : ℕ). IsRuleSpeed s (queue_at s i) (byte_at s plan₁ r i)) (sym q) (fresh i h)
+        by t i h l (inr (inl before)) = kept t i h before
+        by t i h l (inr (inr after)) = absurd (omega (arith, next_row, suc-mul slot (N s), mul-le-mul_right (N s) after))
 
 -- there is a first row: T is 1 at least
 pub first_within : (s : View) → Ranged s → N s ≤ plan_needed s
@@ -84,21 +102,21 @@ rule_small s {speed = speed} ranges right = omega (arith, speed_upto s speed rig
 
 -- the queue of a number, as the code finds it
 
-module _ {s : View} {sizes : Sizes} (p : Prepared s sizes) {number : ℕ} (low : number < sizes.queues) where
+module _ {s : View} {sizes : Sizes} (ranges : Ranged s) (sized : Sized s sizes) {number : ℕ} (low : number < sizes.queues) where
   -- there is one
   pub number_low : number < queue_count sizes.largest sizes.bound
-  number_low = omega (arith, p.sized.queues_is, N_is s, sized_same p.sized queue_count)
+  number_low = omega (arith, sized.queues_is, N_is s, sized_same sized queue_count)
 
   -- a queue of D positions, which is bearable
   listed_right : (length (queue_at s number) ≡ s.bound) × T (bearable (M s) (queue_at s number))
-  listed_right = listed_bearable (M s) s.bound number (omega (arith, p.sized.queues_is, N_is s))
+  listed_right = listed_bearable (M s) s.bound number (omega (arith, sized.queues_is, N_is s))
 
   module _ {queue : List ℕ} (found : queue ≡ places_of (get_or (bearable_queues sizes.largest sizes.bound) number [])) where
     -- it stands in the first D places that are found
     pub queue_found : queue_in s.bound queue ≡ queue_at s number
     queue_found =
-        ap (queue_in s.bound) (found ∙ sized_same p.sized (λ m D. places_of (get_or (bearable_queues m D) number []))) ∙
-        in_first_places s.bound (queue_at s number) listed_right.0 (accepted s p.accepted).ranged.bound_high
+        ap (queue_in s.bound) (found ∙ sized_same sized (λ m D. places_of (get_or (bearable_queues m D) number []))) ∙
+        in_first_places s.bound (queue_at s number) listed_right.0 ranges.bound_high
 
     -- so that a bearable queue stands there
     pub found_bearable : T (bearable (M s) (queue_in s.bound queue))

@@ -1,46 +1,50 @@
 -- The smallest speed of a sheet that is enough in a queue: whether a speed is enough, place by place, and what a search over the sheet's
 -- speeds, which rise, finds.
-use Prim.Native.Nat.{ℕ, suc, ◌+◌, ◌*◌, ◌≤◌, ◌<◌}
+use Prim.Native.Nat.{ℕ, suc, pred, ◌+◌, ◌*◌, ◌≤◌, ◌<◌, zero-le}
+use Rattle.std.specs.Bool.{MatchBool}
+use Rattle.std.specs.Borrow.{Bor}
+use Rattle.std.proofs.Common.{Option, Some, None}
+use Rattle.std.specs.Option.{IsSome, MatchOption}
+use Rattle.std.proofs.lemmas.List.{get_or_default}
+use Rattle.model.proofs.Refusal.{Ranged}
+use Rattle.std.specs.List.{enumerate_from, AllWithin, HoldsAt}
+use Rattle.std.proofs.Math.Nat.{zero-add}
+use Rattle.std.proofs.lemmas.List.FromFn.{length-enumerate_from, get_or-enumerate_from}
 use mathlib.Core.Path.{◌≡◌, refl, sym, ap, ◌∙◌, subst}
 use mathlib.Core.Bool.{Bool, true, false}
-use mathlib.Core.List.{List}
 use mathlib.Core.Logic.{⊎_elim}
 use native.Mathlib.Nat.{eq-or-lt_of_le}
 use native.Mathlib.Numerals.{add-one}
 use native.Mathlib.Omega.{arith}
-use borrow.Author.Tests.{ltb-true, ltb-false, le-leb, lt-leb}
+use borrow.Author.Tests.{ltb-true, ltb-false, lt-leb}
 use lib.Dec.{T, ltb, le→leb}
 use lib.ListN.{length, get_or}
-use Rattle.model.specs.View.{View, view_of, zero_speed, speed_at, on_sheet, M}
-use Rattle.model.specs.declared.Sheet.{Sheet}
+use Rattle.model.specs.View.{View, zero_speed, speed_at, on_sheet, M}
 use Rattle.model.specs.declared.Speed.{Speed}
-use Rattle.model.specs.Queue.{Queue, total, queue_in, bearable}
+use Rattle.model.specs.Queue.{Queue, total, bearable}
 use Rattle.model.specs.Pricing.{enough_at, enough, IsRuleSpeed}
-use Rattle.model.specs.Tests.{everywhere}
-use Rattle.model.proofs.Queues.{length_in, bearable_upto}
-use Rattle.model.proofs.Tests.{everywhere_all, everywhere_same}
+use Rattle.model.proofs.Queues.{bearable_upto}
+use Rattle.model.proofs.Tests.{holds_true, everywhere_all, everywhere_fails}
 use Rattle.model.proofs.View.{Climbs, later_faster, on_sheet_at, place_of, speed_upto, speed_least}
-use Rattle.slot.proofs.Places.{total_in}
-use Rattle.limits.proofs.Places.{speed_counts}
 
 -- whether a speed is enough
 
--- the test fails at a place that holds more than the speed does by then
-pub more_at : (places : List ℕ) (speed u : ℕ) → (u + 1) * speed < get_or places u 0 → enough_at places speed u ≡ false
-more_at places speed u h = lt-leb (get_or places u 0) (suc u * speed) (rw add-one at h)
-
--- elsewhere it holds
-pub enough_at_lem : (places : List ℕ) (speed u : ℕ) → get_or places u 0 ≤ (u + 1) * speed → enough_at places speed u ≡ true
-enough_at_lem places speed u h = le-leb (get_or places u 0) (suc u * speed) (rw add-one at h)
-
--- a speed is enough for the queue in the first D places where the test holds in each of them
-pub enough_in : (D : ℕ) (places : List ℕ) (speed : ℕ) → D ≤ length places →
-    enough (queue_in D places) speed ≡ everywhere (enough_at places speed) D
+-- what a walk over a queue's totals, each with its place, says of a speed: all pass, or one fails
+pub enough_walked : (r : Bool) (w : Queue) (speed : ℕ) →
+    MatchBool r (AllWithin (λ (p : ℕ × ℕ). p.1 ≤ (p.0 + 1) * speed) (enumerate_from 0 w) 0 (length (enumerate_from 0 w)))
+    ((k : ℕ) × (k < length (enumerate_from 0 w)) × HoldsAt (λ (p : ℕ × ℕ). (p.0 + 1) * speed < p.1) (enumerate_from 0 w) k) → r ≡ enough w speed
 unfolding enough
-enough_in D places speed long =
-    let w = queue_in D places in
-    ap (everywhere (enough_at w speed)) (length_in D places long) ∙ everywhere_same (enough_at w speed) (enough_at places speed) D
-    (λ i h. rw (total_in D places (suc i) h))
+enough_walked true w speed all = sym (holds_true _ (everywhere_all (enough_at w speed) (length w) passes))
+  where
+    passes : (i : ℕ) → i < length w → T (enough_at w speed i)
+    passes i h =
+        let low : i < length (enumerate_from 0 w) = omega (arith, length-enumerate_from 0 w) in
+        let here = rw (get_or-enumerate_from 0 w i (0, 0) h) at (all i (0, 0) zero-le low) in
+        le→leb (total w (suc i)) (suc i * speed) (rw (zero-add, add-one) at here)
+enough_walked false w speed (k, low, fails) =
+    let h : k < length w = omega (arith, length-enumerate_from 0 w) in
+    let here = rw (get_or-enumerate_from 0 w k (0, 0) h) at (fails (0, 0)) in
+    sym (everywhere_fails (enough_at w speed) (length w) k h (lt-leb (total w (suc k)) (suc k * speed) (rw (zero-add, add-one) at here)))
 
 -- M is enough for every bearable queue
 largest_enough : (most : ℕ) (w : Queue) → T (bearable most w) → T (enough w most)
@@ -51,19 +55,13 @@ largest_enough most w t =
 
 -- the search
 
--- the speed in memory at a place below the count is the sheet's
-pub speed_here : (s : Sheet) (j : ℕ) → j < s.speed_count → (get_or s.speeds j zero_speed).speed ≡ speed_at (view_of s) j
-speed_here s j h = sym (ap (λ (one : Speed). one.speed) (speed_counts s j h))
+-- the speed found at a place is the sheet's there
+pub found_at : (s : View) {one : Speed} (place : ℕ) → place < length s.speeds → one ≡ get_or s.speeds place one → one.speed ≡ speed_at s place
+found_at s {one = one} place low is = ap (λ (y : Speed). y.speed) (is ∙ get_or_default s.speeds place one zero_speed low)
 
 -- no speed before this place is enough
 abbrev pub NoneBefore : View → Queue → ℕ → Type 0
 NoneBefore s w place = (j : ℕ) → j < place → enough w (speed_at s j) ≡ false
-
--- nor is the one at it
-pub none_more : (s : View) (w : Queue) (place : ℕ) {speed : ℕ} → speed ≡ speed_at s place → NoneBefore s w place → enough w speed ≡ false →
-    NoneBefore s w (place + 1)
-none_more s w place here none fails j h =
-    ⊎_elim (λ q. ap (λ (i : ℕ). enough w (speed_at s i)) q ∙ sym (ap (enough w) here) ∙ fails) (none j) (eq-or-lt_of_le (omega arith))
 
 module _ (s : View) (rises : Climbs s) where
   -- the speed at the last place is M
@@ -94,8 +92,25 @@ module _ (s : View) (rises : Climbs s) where
                     ⊎_elim (λ q. omega (arith, here, is, ap (speed_at s) q))
                     (λ l. omega (arith, here, is, later_faster s rises place j l low)) (eq-or-lt_of_le (ltb-false j place e))
 
-    -- and the last speed is, where none before it is enough and the queue is bearable
-    pub last_smallest : suc place ≡ s.speed_count → T (bearable (M s) w) → IsRuleSpeed s w speed
-    last_smallest last t =
-        first_smallest (omega arith)
-        (subst (λ (a : ℕ). T (enough w a)) (sym (here ∙ last_largest place last)) (largest_enough (M s) w t))
+-- what a search for the first speed that is enough gives, in a bearable queue
+abbrev pub IsFirstEnough : View → Queue → Option (Bor Speed) → Type 0
+IsFirstEnough s w found =
+    MatchOption found (AllWithin (λ (one : Speed). enough w one.speed ≡ false) s.speeds 0 (length s.speeds))
+    (λ one. (enough w one.now.speed ≡ true) × (place : ℕ) × (place < length s.speeds) × HoldsAt (λ y. y ≡ one.now) s.speeds place ×
+    AllWithin (λ (other : Speed). enough w other.speed ≡ false) s.speeds 0 place)
+
+module _ (s : View) (ranges : Ranged s) (counted : length s.speeds ≡ s.speed_count) (w : Queue) where
+  -- there is one
+  pub some_enough : T (bearable (M s) w) → (found : Option (Bor Speed)) → IsFirstEnough s w found → IsSome found
+  some_enough t None none =
+      let j = pred s.speed_count in
+      let last : suc j ≡ s.speed_count = omega (arith, ranges.speeds_low) in
+      absurd
+      (subst T (sym (ap (enough w) (last_largest s ranges.rises j last)) ∙ none j zero_speed zero-le (omega (arith, counted))) (largest_enough (M s) w t))
+  some_enough t (Some one) is = refl
+
+  -- and it is the smallest
+  pub enough_smallest : (one : Bor Speed) → IsFirstEnough s w (Some one) → IsRuleSpeed s w one.now.speed
+  enough_smallest one (right, place, low, here, before) =
+      first_smallest s ranges.rises w place (found_at s place low (sym (here one.now)))
+      (λ j h. before j zero_speed zero-le h) (omega (arith, counted)) (subst T (sym right) tt)

@@ -1,16 +1,9 @@
--- What the functions that fill the rows of the rule's plan ask for and leave.
+-- What the functions that fill the rows of the rule's plan leave.
 use Rattle.std.specs.Prelude.{ℕ, ◌≤◌, ◌<◌, ◌≡◌, List, length, get_or}
 use Rattle.model.specs.View.{View}
 use Rattle.model.specs.Plan.{queue_at, place_at, byte_at}
-use Rattle.model.specs.Refusal.{N, sheet_refusal, value_limit}
+use Rattle.model.specs.Refusal.{N}
 use Rattle.model.specs.Pricing.{IsRuleSpeed}
-use Rattle.sheets.specs.Sizes.{Sized}
-use Rattle.sheets.specs.declared.sizes.Sizes.{Sizes}
-
--- a sheet that is accepted, and its sizes
-pub record Prepared (s : View) (sizes : Sizes) : Type 0 where
-  pub accepted : sheet_refusal value_limit s ≡ 0
-  pub sized : Sized s sizes
 
 -- how far the lent plan is filled: in its first n places stand the rule's speeds, and every other place holds what it held
 pub record FilledTo (s : View) (n : ℕ) (plan₀ plan : List ℕ) : Type 0 where

@@ -3,12 +3,11 @@ ghost use Rattle.model.specs.View.{view_of};
 ghost use Rattle.old_rule.specs.Calls.{IsRule};
 
 use crate::rows::fill;
-use counts::table;
-use layout::row_refusal;
+use counts::Counts;
+use layout::tested_for;
 use model::Sheet;
-use sheets::sizes_of;
 
-// What the rule's call answers: its number, and how many queues there are.
+// What the rule's call answers: its number, and how many queues there are. 01 fixes it: a number, and zero where the call is refused.
 #[derive(Clone, Copy)]
 pub struct RuleAnswer {
     pub number: u32,
@@ -19,15 +18,18 @@ pub struct RuleAnswer {
 pub fn rule(sheet: Sheet, plan: &mut [u8]) -> RuleAnswer
     ensures { IsRule (view_of sheet) plan.old plan.new result.number result.queues }
 {
-    let counts = table();
-    let number = row_refusal(&counts, sheet, plan.len());
-    if number != 0 {
-        return RuleAnswer { number, queues: 0 };
-    }
-    let sizes = sizes_of(&counts, sheet);
-    fill(&counts, sheet, sizes, plan);
-    RuleAnswer {
-        number: 0,
-        queues: sizes.queues as u32,
+    let counts = Counts::new();
+    match tested_for(&counts, sheet, plan.len()) {
+        Ok(tested) => {
+            fill(&counts, tested, plan);
+            RuleAnswer {
+                number: 0,
+                queues: tested.sizes.queues as u32,
+            }
+        }
+        Err(refusal) => RuleAnswer {
+            number: refusal.number(),
+            queues: 0,
+        },
     }
 }

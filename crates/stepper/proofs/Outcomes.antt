@@ -1,14 +1,20 @@
 -- What the functions answer, from what the model's definitions say.
 use Prim.Native.Nat.{ℕ, ◌+◌, ◌≤◌, ◌<◌}
-use mathlib.Core.Path.{◌≡◌, sym, ap, ◌∙◌}
+use mathlib.Core.Path.{◌≡◌, sym, ap, subst, ◌∙◌}
 use mathlib.Core.Bool.{Bool, true, false, cond}
 use mathlib.Core.List.{List}
 use native.Mathlib.Omega.{arith}
 use borrow.Author.Tests.{le-leb, lt-leb, ne_eqb}
 use lib.Dec.{T, leb, eqb}
-use Rattle.laws.proofs.Stepper.{start_by, advance_by, moved_by}
+use Rattle.std.proofs.Common.{Result, Ok, Err}
+use Rattle.std.specs.Result.{IfOk, MatchResult}
+use Rattle.refusals.specs.Numbers.{number_of}
+use Rattle.refusals.specs.declared.Refusal.{Refusal}
+use Rattle.ranges.proofs.Answers.{number_some}
+use Rattle.laws.proofs.Stepper.{moved_by}
 use Rattle.model.proofs.Tests.{check_zero, check_true, check_false, then_left, then_passes, then_fails}
-use Rattle.model.specs.View.{View, energy_of, M}
+use Rattle.model.specs.declared.Sheet.{Sheet}
+use Rattle.model.specs.View.{View, view_of, energy_of, M}
 use Rattle.model.specs.Queue.{queue_in, places_of, bearable, one_slot}
 use Rattle.model.specs.Stepper as model
 use Rattle.model.specs.Tests.{check}
@@ -16,7 +22,6 @@ use Rattle.sheets.specs.Sizes.{Sized}
 use Rattle.sheets.specs.declared.sizes.Sizes.{Sizes}
 use Rattle.sheets.proofs.Measures.{sized_same}
 use Rattle.stepper.specs.Calls.{state_of, IsStepped}
-use Rattle.stepper.specs.Parts.{told_by, IsTold}
 use Rattle.stepper.specs.declared.state.State.{State}
 use Rattle.stepper.specs.declared.state.Stepped.{Stepped}
 
@@ -24,63 +29,25 @@ use Rattle.stepper.specs.declared.state.Stepped.{Stepped}
 refused_gives : {A : Type 0} {number : ℕ} (done refused : A) → (number ≡ 0 → ⊥) → refused ≡ cond (eqb number 0) done refused
 refused_gives {number = number} done refused some = sym (ap (λ (b : Bool). cond b done refused) (ne_eqb number 0 some))
 
--- a number and a speed that are told, by the number
-
--- one that is not 0, and speed 0
-pub told_refused : (n speed : ℕ) {number : ℕ} → n ≡ number → (number ≡ 0 → ⊥) → IsTold (told_by n speed) number 0
-told_refused n speed e some = record { number_is = sym e; speed_is = refused_gives speed 0 (λ z. some (sym e ∙ z)) }
-
--- 0, and the speed
-pub told_done : (n speed : ℕ) {told : ℕ} → n ≡ 0 → told ≡ speed → IsTold (told_by n speed) 0 told
-told_done n speed e same = record { number_is = sym e; speed_is = same ∙ sym (ap (λ (m : ℕ). cond (eqb m 0) speed 0) e) }
-
--- what was told, by the number
-
--- where it is 0, so is what was tested, and the speed is told
-pub told_zero : (n speed : ℕ) {number told : ℕ} → IsTold (told_by n speed) number told → number ≡ 0 → (n ≡ 0) × (told ≡ speed)
-told_zero n speed is e =
-    let zero = sym is.number_is ∙ e in
-    (zero, is.speed_is ∙ ap (λ (m : ℕ). cond (eqb m 0) speed 0) zero)
-
--- what a call answers, by its number
-
--- one that is not 0: the state that a refusal gives, and speed 0
-stepped_refused : (given refused : model.State) (speed : ℕ) {said : model.Stepped} {number : ℕ} →
-    said ≡ model.stepped_by number given speed refused → (number ≡ 0 → ⊥) → {answer : Stepped} {state : State} →
-    (answer.number ≡ number) × (answer.state ≡ state) × (answer.speed ≡ 0) → state_of state ≡ refused →
+-- a call answers what the model says, by its step: 0, the state to go on from and the speed; or a number that is not 0, the state that a
+-- refusal gives, and speed 0
+pub step_answered : (step : Result (State × ℕ) Refusal) (given refused : model.State) (speed : ℕ) {said : model.Stepped} →
+    said ≡ model.stepped_by (number_of step) given speed refused → IfOk step (λ p. (state_of p.0 ≡ given) × (p.1 ≡ speed)) → (answer : Stepped) →
+    {state : State} → answer.number ≡ number_of step →
+    MatchResult step (λ p. (answer.state ≡ p.0) × (answer.speed ≡ p.1)) (λ _. (answer.state ≡ state) × (answer.speed ≡ 0)) → state_of state ≡ refused →
     IsStepped said answer.number answer.state answer.speed
-stepped_refused given refused speed e some (number_is, state_is, speed_is) same =
+step_answered (Ok p) given refused speed e (state_right, speed_right) answer number_is (state_is, speed_is) same =
     record {
       number_is = number_is ∙ sym (ap (λ (r : model.Stepped). r.number) e);
-      state_is = ap state_of state_is ∙ same ∙ refused_gives given refused some ∙ sym (ap (λ (r : model.Stepped). r.state) e);
-      speed_is = speed_is ∙ refused_gives speed 0 some ∙ sym (ap (λ (r : model.Stepped). r.speed) e);
+      state_is = ap state_of state_is ∙ state_right ∙ sym (ap (λ (r : model.Stepped). r.state) e);
+      speed_is = speed_is ∙ speed_right ∙ sym (ap (λ (r : model.Stepped). r.speed) e);
     }
-
--- 0: the state to go on from, and the speed
-pub stepped_done : {given : model.State} {speed : ℕ} {said : model.Stepped} →
-    said ≡ record { number = 0; state = given; speed = speed } →
-    {state : State} {told : ℕ} → state_of state ≡ given → told ≡ speed → IsStepped said 0 state told
-stepped_done e state_is speed_is =
+step_answered (Err r) given refused speed e _ answer number_is (state_is, speed_is) same =
     record {
-      number_is = sym (ap (λ (r : model.Stepped). r.number) e);
-      state_is = state_is ∙ sym (ap (λ (r : model.Stepped). r.state) e);
-      speed_is = speed_is ∙ sym (ap (λ (r : model.Stepped). r.speed) e);
+      number_is = number_is ∙ sym (ap (λ (r : model.Stepped). r.number) e);
+      state_is = ap state_of state_is ∙ same ∙ refused_gives given refused (number_some r) ∙ sym (ap (λ (r : model.Stepped). r.state) e);
+      speed_is = speed_is ∙ refused_gives speed 0 (number_some r) ∙ sym (ap (λ (r : model.Stepped). r.speed) e);
     }
-
-module _ (s : View) (plan : List ℕ) (x : model.State) where
-  -- a start that is refused
-  pub start_refused : {number : ℕ} → model.start_refusal s plan x ≡ number → (number ≡ 0 → ⊥) → {answer : Stepped} {state : State} →
-      (answer.number ≡ number) × (answer.state ≡ state) × (answer.speed ≡ 0) → state_of state ≡ model.zero_state →
-      IsStepped (model.start s plan x) answer.number answer.state answer.speed
-  start_refused e = stepped_refused (model.begun x) model.zero_state (model.speed_now s plan (model.begun x)) (start_by s plan x e)
-
-  -- an advance that is refused
-  pub advance_refused : (size deadline : ℕ) {number : ℕ} → model.advance_refusal s plan x size deadline ≡ number → (number ≡ 0 → ⊥) →
-      {answer : Stepped} {state : State} → (answer.number ≡ number) × (answer.state ≡ state) × (answer.speed ≡ 0) → state_of state ≡ x →
-      IsStepped (model.advance s plan x size deadline) answer.number answer.state answer.speed
-  advance_refused size deadline e =
-      let next = model.moved s x (model.plan_byte s plan x) size deadline in
-      stepped_refused next x (model.speed_now s plan next) (advance_by s plan x size deadline e)
 
 -- the next state
 
@@ -122,3 +89,9 @@ pub next_bearable : (s : View) (next : model.State) → model.next_refusal s nex
 next_bearable s next e =
     let first = bearable (M s) (model.queue_of s next) in
     check_zero first 16 (then_left (check first 17) _ e)
+
+-- what is known of a sheet and a plan that are those lent is known of those
+pub at_lent : (P : View → List ℕ → Type 0) (sheet₀ sheet : Sheet) (plan₀ plan : List ℕ) → (sheet₀ ≡ sheet) × (plan₀ ≡ plan) →
+    P (view_of sheet₀) plan₀ → P (view_of sheet) plan
+at_lent P sheet₀ sheet plan₀ plan (same_sheet, same_plan) h =
+    subst (λ (l : List ℕ). P (view_of sheet) l) same_plan (subst (λ (s : Sheet). P (view_of s) plan₀) same_sheet h)

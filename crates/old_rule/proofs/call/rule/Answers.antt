@@ -1,43 +1,32 @@
 -- `rule` meets its contract: the call is refused and nothing is touched, or the plan is filled.
-use mathlib.Core.Path.{◌≡◌, sym, ◌∙◌}
-use native.Mathlib.Omega.{arith}
-use lib.ListN.{length}
+use Rattle.std.proofs.Common.{sym, ap, arith, subst, ◌∙◌}
 use Rattle.laws.proofs.Rooms.{row_accepted}
-use Rattle.model.proofs.Refusal.{accepted, fields_right}
-use Rattle.model.specs.View.{View, view_of}
-use Rattle.model.specs.Plan.{row_refusal}
-use Rattle.model.specs.Refusal.{sheet_refusal, value_limit}
-use Rattle.old_rule.proofs.Outcomes.{filled_rule}
+use Rattle.model.specs.declared.Sheet.{Sheet}
+use Rattle.model.specs.Plan.{plan_needed}
+use Rattle.model.specs.View.{view_of}
+use Rattle.ranges.proofs.Answers.{number_some}
+use Rattle.sheets.specs.Sizes.{Sized}
+use Rattle.old_rule.specs.Rows.{FilledTo}
+use Rattle.old_rule.proofs.Outcomes.{refused_rule, filled_rule}
 use Rattle.old_rule.proofs.call.rule.Goals as goal
-use Rattle.old_rule.proofs.call.rule.Goals.{Else-number-ne0}
-
--- the sheet, as it is known behind the test
-abbrev sheet : Else-number-ne0 → View
-sheet c = view_of c.args.sheet
-
--- there the call is not refused
-passed : (c : Else-number-ne0) → row_refusal (sheet c) (length c.args.plan.now) ≡ 0
-passed c = sym c.row_refusal-number.ensures ∙ c.if-number-ne0.false
-
--- so that the sheet is accepted
-sheet_right : (c : Else-number-ne0) → sheet_refusal value_limit (sheet c) ≡ 0
-sheet_right c = (row_accepted (sheet c) _ (passed c)).0
-
-pub sizes_of-sizes-requires : goal.sizes_of-sizes-requires
-sizes_of-sizes-requires c =
-    (c.table-counts.ensures, fields_right value_limit (sheet (goal.at.sizes_of-sizes-requires c).Else-number-ne0) (sheet_right (goal.at.sizes_of-sizes-requires c).Else-number-ne0))
 
 pub fill-requires : goal.fill-requires
-fill-requires c = (
-  c.table-counts.ensures,
-  record { accepted = sheet_right (goal.at.fill-requires c).Else-number-ne0; sized = c.sizes_of-sizes.ensures },
-  (row_accepted (sheet (goal.at.fill-requires c).Else-number-ne0) _ (passed (goal.at.fill-requires c).Else-number-ne0)).1,
-)
+fill-requires c =
+    let (same, sized) = c.in-Ok.ensures.sized in (
+      subst (λ (sheet : Sheet). Sized (view_of sheet) c.in-Ok.tested.sizes) (sym same) sized,
+      omega (arith, ap (λ (sheet : Sheet). plan_needed (view_of sheet)) same, (row_accepted (view_of c.args.sheet) _ (sym c.in-Ok.ensures.number)).1),
+    )
 
 pub overflow_cast-result : goal.overflow_cast-result
-overflow_cast-result c =
-    omega (arith, c.sizes_of-sizes.ensures.queues_is, (accepted (sheet (goal.at.overflow_cast-result c).Else-number-ne0) (sheet_right (goal.at.overflow_cast-result c).Else-number-ne0)).queues_high)
+overflow_cast-result c = omega (arith, c.in-Ok.tested.measured.queues_high)
 
-pub returns : goal.returns
-returns c =
-    filled_rule (sheet (goal.at.returns c).Else-number-ne0) (passed (goal.at.returns c).Else-number-ne0) c.fill.ensures c.sizes_of-sizes.ensures.queues_is
+pub returns-in-Ok : goal.returns-in-Ok
+returns-in-Ok c =
+    let (same, sized) = c.in-Ok.ensures.sized in
+    filled_rule (view_of c.args.sheet) (sym c.in-Ok.ensures.number)
+    (subst (λ (sheet : Sheet). FilledTo (view_of sheet) (plan_needed (view_of sheet)) c.args.plan.now c.fill.new.plan) same c.fill.ensures) sized.queues_is
+
+pub returns-in-Err : goal.returns-in-Err
+returns-in-Err c =
+    refused_rule (view_of c.args.sheet) c.args.plan.now (c.number.ensures ∙ c.in-Err.ensures.number)
+    (λ e. number_some c.in-Err.refusal (sym c.number.ensures ∙ e))

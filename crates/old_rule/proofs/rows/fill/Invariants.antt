@@ -1,10 +1,9 @@
--- `fill` meets its contract. The loop's invariant: where the first row is right, so are all the bytes passed, and nothing else has changed.
-use Prim.Native.Nat.{◌-◌, ◌≤◌}
-use Rattle.old_rule.proofs.Filling.{CopiedTo}
+-- `fill` meets its contract. The loop's invariant: the rows of the slots passed are filled, and nothing else has changed.
+use Rattle.std.proofs.Common.{◌*◌}
+use Rattle.model.specs.View.{view_of}
+use Rattle.model.specs.Refusal.{N}
+use Rattle.old_rule.specs.Rows.{FilledTo}
 use Rattle.old_rule.proofs.rows.fill.Given as goal
 
-abbrev pub invariant-loop-to : goal.invariant-loop-to
-invariant-loop-to l = (l.sizes.queues ≤ l.to) × (l.to ≤ l.end) × CopiedTo l.sizes.queues l.to l.initial.plan l.plan
-
-abbrev pub decreases-loop-to : goal.decreases-loop-to
-decreases-loop-to l = l.end - l.to
+abbrev pub invariant-loop-slot : goal.invariant-loop-slot
+invariant-loop-slot l = let s = view_of l.fn.tested.sheet in FilledTo s (l.slot * N s) l.fn.plan l.plan

@@ -1,41 +1,42 @@
--- `speed_of` meets its contract. The loop's invariant: no speed passed is enough, and one at least is left.
-use mathlib.Core.Path.{sym, ◌∙◌, subst}
-use native.Mathlib.Nat.{not-suc-le-zero}
-use native.Mathlib.Omega.{arith}
-use lib.Dec.{T}
-use Rattle.model.proofs.Refusal.{Ranged, ranged}
+-- `speed_of` meets its contract: one speed at least is enough, and the first that is enough is the smallest.
+use Rattle.std.proofs.Common.{◌≡◌, true, false, rules, tests, arith, length-take, subst, ap, Bor}
+use Rattle.std.proofs.lemmas.Iterator.{first_from_find, YieldsList-from_slice}
+use Rattle.std.proofs.lemmas.Iterator.Adapters.{serves_from_places}
+use Rattle.model.proofs.Refusal.{ranged}
+use Rattle.model.specs.declared.Speed.{Speed}
 use Rattle.model.specs.View.{view_of}
-use Rattle.old_rule.proofs.Smallest.{speed_here, first_smallest, last_smallest}
+use Rattle.model.specs.Pricing.{enough}
+use Rattle.model.specs.Queue.{queue_in}
+use Rattle.old_rule.proofs.Smallest.{IsFirstEnough, found_at, some_enough, enough_smallest}
 use Rattle.old_rule.proofs.speed.speed_of.Goals as goal
-use Rattle.old_rule.proofs.speed.speed_of.Goals.{Start}
+use Rattle.old_rule.proofs.speed.speed_of.Goals.{After-find}
 
--- the sheet keeps its ranges
-ranges : (c : Start) → Ranged (view_of c.args.sheet)
-ranges c = ranged (view_of c.args.sheet) c.requires.0
+-- what was found is the first that is enough
+first : (c : After-find) → IsFirstEnough (view_of c.args.sheet.sheet) (queue_in c.args.sheet.sheet.bound c.args.queue) c.find.result
+first c =
+    let w = queue_in c.args.sheet.sheet.bound c.args.queue in
+    first_from_find _ _ _ (λ (one : Speed). enough w one.speed ≡ true) (λ (one : Speed). enough w one.speed ≡ false) c.find.ensures.ran
+    (YieldsList-from_slice (view_of c.args.sheet.sheet).speeds (cc)) (λ x q k. search (rules, tests)) (λ x q k. search (rules, tests))
 
-pub loop-place-init : goal.loop-place-init
-loop-place-init c = (omega (arith, (ranges (goal.at.loop-place-init c).Start).speeds_low), λ j h. absurd (not-suc-le-zero h))
+pub speeds-speeds-requires : goal.speeds-speeds-requires
+speeds-speeds-requires c = omega (arith, (ranged (view_of c.args.sheet.sheet) c.args.sheet.fields).speeds_high)
 
-pub bounds-sheet-place : goal.bounds-sheet-place
-bounds-sheet-place c = omega (arith, (ranges (goal.at.bounds-sheet-place c).Start).speeds_high)
+pub find-requires-clause-callable : goal.find-requires-clause-callable
+find-requires-clause-callable c =
+    let s = view_of c.args.sheet.sheet in
+    let right = ranged s c.args.sheet.fields in
+    serves_from_places (YieldsList-from_slice s.speeds (cc)) (λ x q k. search rules)
+    (λ x k low is y here _ _ _ _ _ _ _ _. (
+      omega (arith, right.bound_high),
+      omega (arith, found_at s k low is, right.speed_high k (omega (arith, length-take c.args.sheet.sheet.speed_count c.args.sheet.sheet.speeds)), ap (λ (one : Speed). one.speed) (ap (λ (z : Bor Speed). z.now) here)),
+    ))
 
-pub enough-requires : goal.enough-requires
-enough-requires c =
-    let l = c.loop-place in
-    let slow = (ranges (goal.at.enough-requires c).Start).speed_high l.place l.invariant.0 in
-    (omega (arith, (ranges (goal.at.enough-requires c).Start).bound_high), omega (arith, slow, speed_here c.args.sheet l.place l.invariant.0))
-
-pub returns-then-enough : goal.returns-then-enough
-returns-then-enough c =
-    let l = c.loop-place in
-    first_smallest (view_of c.args.sheet) (ranges (goal.at.returns-then-enough c).Start).rises _ l.place (speed_here c.args.sheet l.place l.invariant.0)
-    l.invariant.1 l.invariant.0 (subst T (sym c.if-enough.true ∙ c.enough.ensures) tt)
-
-pub bounds-sheet-place-2 : goal.bounds-sheet-place-2
-bounds-sheet-place-2 c = omega (arith, (ranges (goal.at.bounds-sheet-place-2 c).Start).speeds_high)
+pub unwrap-smallest-requires : goal.unwrap-smallest-requires
+unwrap-smallest-requires c =
+    let s = view_of c.args.sheet.sheet in
+    some_enough s (ranged s c.args.sheet.fields) (omega (arith, length-take c.args.sheet.sheet.speed_count c.args.sheet.sheet.speeds, (ranged s c.args.sheet.fields).speeds_high)) _ c.requires _ (first (goal.at.unwrap-smallest-requires c).After-find)
 
 pub returns : goal.returns
 returns c =
-    let l = c.loop-place in
-    last_smallest (view_of c.args.sheet) (ranges (goal.at.returns c).Start).rises _ l.place (speed_here c.args.sheet l.place l.invariant.0)
-    l.invariant.1 (omega arith) c.requires.1
+    let s = view_of c.args.sheet.sheet in
+    enough_smallest s (ranged s c.args.sheet.fields) (omega (arith, length-take c.args.sheet.sheet.speed_count c.args.sheet.sheet.speeds, (ranged s c.args.sheet.fields).speeds_high)) _ c.unwrap-smallest.result (subst (IsFirstEnough s (queue_in c.args.sheet.sheet.bound c.args.queue)) c.unwrap-smallest.ensures (first (goal.at.returns c).After-find))

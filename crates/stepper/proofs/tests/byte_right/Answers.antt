@@ -1,7 +1,5 @@
 -- `byte_right` meets its contract: the byte is no sheet speed, or w(1) decides.
-use Prim.Native.Nat.{ℕ, ◌≤◌, ◌<◌}
-use mathlib.Core.Path.{sym, ap, ◌∙◌}
-use native.Mathlib.Omega.{arith}
+use Rattle.std.proofs.Common.{ℕ, ◌≤◌, ◌<◌, sym, ap, ◌∙◌, arith}
 use borrow.Author.Tests.{lt-ltb, le-ltb}
 use lib.Dec.{leb}
 use Rattle.model.proofs.Refusal.{ranged}
@@ -12,22 +10,22 @@ use Rattle.lookups.proofs.Looking.{on_sheet_place}
 use Rattle.stepper.specs.Calls.{state_of}
 use Rattle.stepper.proofs.tests.byte_right.Goals as goal
 
-pub returns-then-sheet-place_of : goal.returns-then-sheet-place_of
-returns-then-sheet-place_of c =
+pub returns-then-place_of-sheet : goal.returns-then-place_of-sheet
+returns-then-place_of-sheet c =
     let a = c.args in
-    let s = view_of a.sheet in
-    let past : s.speed_count ≤ place_of_speed s a.byte = omega (arith, c.if-sheet-place_of.true, c.place_of.ensures) in
-    sym
-    (wrong_byte s (state_of a.state) a.byte
-    (on_sheet_place a.sheet a.byte ∙ le-ltb (place_of_speed s a.byte) s.speed_count past))
-
-pub returns : goal.returns
-returns c =
-    let a = c.args in
-    let s = view_of a.sheet in
-    let there : place_of_speed s a.byte < s.speed_count =
-    omega (arith, c.if-sheet-place_of.false, c.place_of.ensures) in
-    ap (λ (first : ℕ). leb first a.byte) (sym (total_in s.bound a.state.queue 1 (ranged s c.requires).bound_low)) ∙
+    let s = view_of a.sheet.sheet in
+    let there : place_of_speed s a.byte < s.speed_count = omega (arith, c.if-place_of-sheet.true, c.place_of.ensures) in
+    ap (λ (first : ℕ). leb first a.byte) (sym (total_in s.bound a.state.queue 1 (ranged s a.sheet.fields).bound_low)) ∙
     sym
     (first_decides s (state_of a.state) a.byte
-    (on_sheet_place a.sheet a.byte ∙ lt-ltb (place_of_speed s a.byte) s.speed_count there))
+    (on_sheet_place a.sheet.sheet a.byte ∙ lt-ltb (place_of_speed s a.byte) s.speed_count there))
+
+pub returns-else-place_of-sheet : goal.returns-else-place_of-sheet
+returns-else-place_of-sheet c =
+    let a = c.args in
+    let s = view_of a.sheet.sheet in
+    let past : s.speed_count ≤ place_of_speed s a.byte = omega (arith, c.if-place_of-sheet.false, c.place_of.ensures) in
+    le-ltb c.place_of.result s.speed_count c.if-place_of-sheet.false ∙
+    sym
+    (wrong_byte s (state_of a.state) a.byte
+    (on_sheet_place a.sheet.sheet a.byte ∙ le-ltb (place_of_speed s a.byte) s.speed_count past))
