@@ -27,7 +27,7 @@ use Rattle.sheets.specs.declared.sizes.Sizes.{Sizes}
 use Rattle.layout.specs.Places.{place_in}
 use Rattle.layout.proofs.Within.{place_is}
 use Rattle.choose.specs.Choice.{byte_of}
-use Rattle.backward.specs.Passes.{value_with, choice_with, RowWith, InPlan, Planned, FilledFrom, PlannedFrom}
+use Rattle.backward.specs.Passes.{value_with, choice_with, RowWith, InPlan, SlotRows, slot_before, EndRow, Planned, FilledFrom, PlannedFrom}
 use Rattle.backward.proofs.Fits.{scale_fits}
 use Rattle.backward.proofs.FirstPass.{value_last}
 
@@ -66,30 +66,18 @@ row_filled places reader local s t {from} place {before = before} {after = after
         subst (λ (x : ℕ). reader after (place_at s x i) ≡ g x i) e
         (subst (λ (p : ℕ). reader after p ≡ g t i) at (filled.filled i inside ∙ same))
 
--- the slot that has k left after it, counted from 0
-abbrev slot_with : View → ℕ → ℕ
-slot_with s k = s.horizon - suc k
-
--- where its rows of values and of plan bytes begin, and the next slot's row of values
-pub record SlotRows (s : View) (k left this next row : ℕ) : Type 0 where
-  pub left_low : k < s.horizon
-  pub left_is : left ≡ k
-  pub this_is : this ≡ place_at s (slot_with s k) 0
-  pub next_is : next ≡ place_at s (suc (slot_with s k)) 0
-  pub row_is : row ≡ place_at s (slot_with s k) 0
-
 -- so it is with the slot that the code makes
 pub slot_rows : (s : View) (k : ℕ) {sizes : Sizes} → Sized s sizes → {left this next row : ℕ} → k < s.horizon → left ≡ k →
     this ≡ place_in sizes.queues (s.horizon - suc k) 0 → next ≡ place_in sizes.queues (s.horizon - k) 0 →
     row ≡ place_in sizes.queues (s.horizon - suc k) 0 → SlotRows s k left this next row
 slot_rows s k sized low left_is this_is next_is row_is =
-    let later : s.horizon - k ≡ suc (slot_with s k) = omega arith in
+    let later : s.horizon - k ≡ suc (slot_before s k) = omega arith in
     record {
       left_low = low;
       left_is = left_is;
-      this_is = this_is ∙ place_is s sized (slot_with s k) 0;
+      this_is = this_is ∙ place_is s sized (slot_before s k) 0;
       next_is = next_is ∙ place_is s sized (s.horizon - k) 0 ∙ ap (λ (t : ℕ). place_at s t 0) later;
-      row_is = row_is ∙ place_is s sized (slot_with s k) 0;
+      row_is = row_is ∙ place_is s sized (slot_before s k) 0;
     }
 
 module _ (s : View) (k : ℕ) {left this next row : ℕ} (at : SlotRows s k left this next row) where
@@ -102,8 +90,8 @@ module _ (s : View) (k : ℕ) {left this next row : ℕ} (at : SlotRows s k left
       }
 
   -- its rows end where the end row begins, or before
-  row_ends : slot_with s k * N s + N s ≤ s.horizon * N s
-  row_ends = row_behind (N s) (slot_with s k) s.horizon (omega (arith, at.left_low))
+  row_ends : slot_before s k * N s + N s ≤ s.horizon * N s
+  row_ends = row_behind (N s) (slot_before s k) s.horizon (omega (arith, at.left_low))
 
   pub plan_within : row + N s ≤ plan_needed s
   plan_within = omega (arith, at.row_is, row_ends)
@@ -114,7 +102,7 @@ module _ (s : View) (k : ℕ) {left this next row : ℕ} (at : SlotRows s k left
   this_within = omega (arith, at.this_is, row_ends, suc-mul s.horizon (N s))
 
   next_within : next + N s ≤ values_needed s
-  next_within = omega (arith, at.next_is, row_ends, suc-mul s.horizon (N s), suc-mul (slot_with s k) (N s))
+  next_within = omega (arith, at.next_is, row_ends, suc-mul s.horizon (N s), suc-mul (slot_before s k) (N s))
 
 -- one slot, where the rows behind it are filled, whatever function fills them
 module _ (width : Width) (s : View) (f : ℕ → Queue → Option ℕ) (k : ℕ) {left this next row : ℕ} (at : SlotRows s k left this next row)
@@ -129,7 +117,7 @@ module _ (width : Width) (s : View) (f : ℕ → Queue → Option ℕ) (k : ℕ)
       record {
         room = fewer_fit width (next_within s k at) (omega (arith, past.same_length));
         right = λ i h.
-            let t = suc (slot_with s k) in
+            let t = suc (slot_before s k) in
             let fewer : s.horizon - t ≡ left = omega (arith, at.left_low, at.left_is) in
             let place : place_at s t i ≡ next + i = omega (arith, at.next_is) in
             subst (λ (p : ℕ). value_in width values p ≡ f left (queue_at s i)) place
@@ -141,11 +129,11 @@ module _ (width : Width) (s : View) (f : ℕ → Queue → Option ℕ) (k : ℕ)
       Fills width.places (value_in width) (λ i. f (suc left) (queue_at s i)) this (N s) values values' →
       FilledFrom width s f (k + 1) values₀ values'
   filled_more filled =
-      let slots : suc left ≡ s.horizon - slot_with s k = omega (arith, at.left_low, at.left_is) in
+      let slots : suc left ≡ s.horizon - slot_before s k = omega (arith, at.left_low, at.left_is) in
       record {
         same_length = filled.same_length ∙ past.same_length;
         right = λ u i from upto h.
-            row_filled width.places (value_in width) (value_local width) s (slot_with s k) at.this_is filled
+            row_filled width.places (value_in width) (value_local width) s (slot_before s k) at.this_is filled
             (λ x j. f (s.horizon - x) (queue_at s j)) u i (omega (arith, at.left_low)) h
             (ap (λ (l : ℕ). f l (queue_at s i)) slots) (λ l. past.right u i (omega arith) upto h);
         beyond = λ p h. filled.outside p (inr (fewer_fit width (this_within s k at) h)) ∙ past.beyond p h;
@@ -168,7 +156,7 @@ module _ (width : Width) (s : View) (k : ℕ) {left this next row : ℕ} (at : S
   pub planned_more : {values' plan' : List ℕ} → Planned width s left this row values plan values' plan' →
       PlannedFrom width s (k + 1) values₀ plan₀ values' plan'
   planned_more filled =
-      let fewer : left ≡ pred (s.horizon - slot_with s k) = omega (arith, at.left_low, at.left_is) in
+      let fewer : left ≡ pred (s.horizon - slot_before s k) = omega (arith, at.left_low, at.left_is) in
       let f = filled_more width s (value_with s) k at (planned_values past) filled.values_filled in
       record {
         values_length = f.same_length;
@@ -176,7 +164,7 @@ module _ (width : Width) (s : View) (k : ℕ) {left this next row : ℕ} (at : S
         values_beyond = f.beyond;
         plan_length = filled.plan_filled.same_length ∙ past.plan_length;
         plan_right = λ u i from upto h.
-            row_filled 1 number_at number_local s (slot_with s k) at.row_is filled.plan_filled
+            row_filled 1 number_at number_local s (slot_before s k) at.row_is filled.plan_filled
             (λ x j. byte_of (choice_with s (pred (s.horizon - x)) (queue_at s j))) u i (omega (arith, at.left_low)) h
             (ap (λ (l : ℕ). byte_of (choice_with s l (queue_at s i))) fewer) (λ l. past.plan_right u i (omega arith) upto h);
         plan_beyond = λ p h. filled.plan_filled.outside p (inr (omega (arith, plan_within s k at))) ∙ past.plan_beyond p h;
@@ -193,42 +181,47 @@ ahead_there width g after e room filled =
 
 -- the end row
 
--- it begins where the place of the horizon is
+-- it ends where what is needed does
+end_within : (s : View) → place_at s s.horizon 0 + N s ≤ values_needed s
+end_within s = omega (arith, suc-mul s.horizon (N s))
+
+-- where the code finds it
 module _ (width : Width) (s : View) {sizes : Sizes} (sized : Sized s sizes) {from : ℕ} (d : from ≡ place_in sizes.queues s.horizon 0) where
   end_place : from ≡ place_at s s.horizon 0
   end_place = d ∙ place_is s sized s.horizon 0
 
-  -- and ends where what is needed does
-  end_within : from + sizes.queues ≤ values_needed s
-  end_within = omega (arith, end_place, sized.queues_is, suc-mul s.horizon (N s))
-
   -- it is within the lent memory
   pub end_room : (values : List ℕ) → value_places width s ≤ length values → (from + sizes.queues) * width.places ≤ length values
-  end_room values room = fewer_fit width end_within room
+  end_room values room = fewer_fit width (omega (arith, end_place, sized.queues_is, end_within s)) room
 
-  module _ {values₀ values : List ℕ} (filled : Fills width.places (value_in width) (λ i. some 0) from sizes.queues values₀ values)
-      (f : ℕ → Queue → Option ℕ) where
-    -- once it is there the lent values are filled as far as no slot, by a function that gives 0 with no slot left
-    pub filled_none : ((i : ℕ) → i < N s → f 0 (queue_at s i) ≡ some 0) → FilledFrom width s f 0 values values
-    filled_none last =
-        record {
-          same_length = refl;
-          right = λ t i low upto h.
-              row_filled width.places (value_in width) (value_local width) s s.horizon end_place
-              (fills_whole width.places (value_in width) filled sized.queues_is) (λ x j. f (s.horizon - x) (queue_at s j)) t i
-              (omega arith) h (sym (last i h) ∙ ap (λ (k : ℕ). f k (queue_at s i)) (sym (sub_self s.horizon)))
-              (λ l. absurd (omega arith));
-          beyond = λ p h. refl;
-        }
+  -- and as many values as there are queues are the whole of it
+  pub end_whole : {n : ℕ} {values₀ values : List ℕ} → n ≡ sizes.queues →
+      Fills width.places (value_in width) (λ i. some 0) from n values₀ values → EndRow width s values₀ values
+  end_whole {n} {values₀} {values} e filled =
+      subst (λ (p : ℕ). Fills width.places (value_in width) (λ i. some 0) p (N s) values₀ values) end_place
+      (fills_whole width.places (value_in width) filled (e ∙ sized.queues_is))
 
-    -- what is filled from there on is filled from before it was on
-    pub filled_since : (k : ℕ) {values' : List ℕ} → FilledFrom width s f k values values' → FilledFrom width s f k values₀ values'
-    filled_since k past =
-        record {
-          same_length = past.same_length ∙ filled.same_length;
-          right = past.right;
-          beyond = λ p h. past.beyond p h ∙ filled.outside p (inr (fewer_fit width end_within h));
-        }
+-- once it is there the lent values are filled as far as no slot, by a function that gives 0 with no slot left
+module _ (width : Width) (s : View) {values₀ values : List ℕ} (filled : EndRow width s values₀ values) (f : ℕ → Queue → Option ℕ) where
+  pub filled_none : ((i : ℕ) → i < N s → f 0 (queue_at s i) ≡ some 0) → FilledFrom width s f 0 values values
+  filled_none last =
+      record {
+        same_length = refl;
+        right = λ t i low upto h.
+            row_filled width.places (value_in width) (value_local width) s s.horizon refl filled (λ x j. f (s.horizon - x) (queue_at s j)) t i
+            (omega arith) h (sym (last i h) ∙ ap (λ (k : ℕ). f k (queue_at s i)) (sym (sub_self s.horizon)))
+            (λ l. absurd (omega arith));
+        beyond = λ p h. refl;
+      }
+
+  -- what is filled from there on is filled from before it was on
+  pub filled_since : (k : ℕ) {values' : List ℕ} → FilledFrom width s f k values values' → FilledFrom width s f k values₀ values'
+  filled_since k past =
+      record {
+        same_length = past.same_length ∙ filled.same_length;
+        right = past.right;
+        beyond = λ p h. past.beyond p h ∙ filled.outside p (inr (fewer_fit width (end_within s) h));
+      }
 
 -- values that are filled from the horizon back to slot 0 are filled as the model says
 pub filled_all : (width : Width) (s : View) (f : ℕ → Queue → Option ℕ) {values₀ values : List ℕ} → FilledFrom width s f s.horizon values₀ values →
@@ -246,11 +239,10 @@ filled_all width s f {values₀} {values} filled =
 row_last : (s : View) (i : ℕ) → i < N s → value_with s 0 (queue_at s i) ≡ some 0
 row_last s i h = value_last s (queue_at s i) (listed_bearable (M s) s.bound i (omega (arith, N_is s))).1
 
-module _ (width : Width) (s : View) {sizes : Sizes} (sized : Sized s sizes) {from : ℕ} (d : from ≡ place_in sizes.queues s.horizon 0)
-    {values₀ values : List ℕ} (filled : Fills width.places (value_in width) (λ i. some 0) from sizes.queues values₀ values) where
+module _ (width : Width) (s : View) {values₀ values : List ℕ} (filled : EndRow width s values₀ values) where
   pub planned_none : (plan : List ℕ) → PlannedFrom width s 0 values plan values plan
   planned_none plan =
-      let f = filled_none width s sized d filled (value_with s) (row_last s) in
+      let f = filled_none width s filled (value_with s) (row_last s) in
       record {
         values_length = f.same_length;
         values_right = f.right;
@@ -263,7 +255,7 @@ module _ (width : Width) (s : View) {sizes : Sizes} (sized : Sized s sizes) {fro
   pub planned_since : (k : ℕ) {plan₀ values' plan' : List ℕ} → PlannedFrom width s k values plan₀ values' plan' →
       PlannedFrom width s k values₀ plan₀ values' plan'
   planned_since k past =
-      let f = filled_since width s sized d filled (value_with s) k (planned_values past) in
+      let f = filled_since width s filled (value_with s) k (planned_values past) in
       record {
         values_length = f.same_length;
         values_right = f.right;
@@ -272,3 +264,11 @@ module _ (width : Width) (s : View) {sizes : Sizes} (sized : Sized s sizes) {fro
         plan_right = past.plan_right;
         plan_beyond = past.plan_beyond;
       }
+
+-- what a walk over the slots gives, said of the sheet that it is over
+pub slot_given : {its s : View} {k left this next row : ℕ} {scale : Option ℕ} → its ≡ s → SlotRows its k left this next row →
+    scale ≡ some (W its ^ suc k) → SlotRows s k left this next row × (scale ≡ some (W s ^ suc k))
+slot_given {k = k} {left} {this} {next} {row} {scale} same rows scaled = (
+  subst (λ (v : View). SlotRows v k left this next row) same rows,
+  subst (λ (v : View). scale ≡ some (W v ^ suc k)) same scaled,
+)

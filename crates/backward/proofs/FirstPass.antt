@@ -11,7 +11,7 @@ use Rattle.model.specs.View.{View, M}
 use Rattle.model.specs.Plan.{queue_at}
 use Rattle.model.specs.Queue.{Queue, bearable}
 use Rattle.laws.proofs.Recursion as recursion
-use Rattle.model.proofs.Refusal.{Accepted, accepted, fields_right, N_is}
+use Rattle.model.proofs.Refusal.{Accepted, accepted, N_is}
 use Rattle.buffers.specs.Fills.{Fills}
 use Rattle.model.specs.Width.{Width, value_in}
 use Rattle.buffers.proofs.Filling.{fills_same}
@@ -19,7 +19,6 @@ use Rattle.rows.specs.Rows.{after_with, Row, RowOf}
 use Rattle.sheets.specs.Sizes.{Sized}
 use Rattle.sheets.specs.declared.sizes.Sizes.{Sizes}
 use Rattle.sheets.proofs.Measures.{sized_same, measured}
-use Rattle.entry_lanes.specs.Lanes.{EntryTable}
 use Rattle.ahead.specs.Pass.{Given, sum_left}
 use Rattle.ahead.specs.Sums.{sum_to}
 use Rattle.ahead.proofs.AnyRow.{given_for, left_for}
@@ -79,10 +78,9 @@ module _ (width : Width) {s : View} {sizes : Sizes} {left : ℕ} {scale : Option
         strict = valued.strict;
       })
 
-  pub first_given : {lanes : List ℕ} → EntryTable sizes.largest sizes.bound s lanes → Given width s sizes lanes next values
-  first_given table =
-      given_for width s (measured s sizes is_accepted sized) f value_row (most s left)
-      (fields_right width.limit s ready.prepared.accepted) table valued.upto
+  pub first_given : Given width s sizes next values
+  first_given =
+      given_for width s (measured s sizes is_accepted sized) f value_row (most s left) valued.upto
       (ahead_fits s is_accepted left ready.in_plan.left_low)
 
   pub first_left : {ahead₀ ahead : List ℕ} →

@@ -26,7 +26,6 @@ use Rattle.sheets.specs.declared.sizes.Sizes.{Sizes}
 use Rattle.sheets.proofs.Measures.{sized_same, measured}
 use Rattle.ahead.specs.Sums.{sum_to}
 use Rattle.ahead.proofs.AnyRow.{sums_upto, sums_strict}
-use Rattle.speed_lanes.specs.Lanes.{SpeedTable}
 use Rattle.choose.specs.Choice.{cost_by, least_to, least_by, byte_of}
 use Rattle.choose.specs.Pass.{Given, LeftAll}
 use Rattle.choose.proofs.Choices.{least_zero, least_suc}
@@ -91,10 +90,10 @@ module _ (width : Width) {s : View} {sizes : Sizes} {left : ℕ} {scale : Option
       subst (λ (p : ℕ × ℕ). RowAfter width p.0 p.1 (λ v. sum_to s f v s.job_count) 0 ahead) (sym (sized_same sized (λ m D. (m, D))))
       (record { row = row; strict = sums_strict s f (M s) is_accepted.ranged.jobs_low valued.strict })
 
-  pub second_given : {lanes : List ℕ} → SpeedTable sizes.largest sizes.bound s lanes → Given width s sizes scale lanes ahead
-  second_given table =
+  pub second_given : Given width s sizes scale ahead
+  second_given =
       given_for width s (measured s sizes is_accepted sized) (λ v. sum_to s f v s.job_count) ahead_row (most s left * W s) (W s ^ suc left)
-      (fields_right width.limit s ready.prepared.accepted) table
+      (fields_right width.limit s ready.prepared.accepted)
       (λ v. sums_upto s f (most s left) valued.upto v s.job_count (le_refl s.job_count)) ready.in_plan.scale_is
       (cost_fits s is_accepted left ready.in_plan.left_low)
 

@@ -70,6 +70,30 @@ pub record Ready (width : Width) (s : View) (sizes : Sizes) (left : ℕ) (scale 
   pub prepared : Prepared width s sizes
   pub in_plan : InPlan s left scale
 
+-- the slots of a sheet, from the last one back
+
+-- so many are passed, and the scale is W to the power of as many
+pub record Passed (s : View) (weight_sum left : ℕ) (scale : Option ℕ) : Type 0 where
+  pub left_upto : left ≤ s.horizon
+  pub weights_are : weight_sum ≡ W s
+  pub scale_is : scale ≡ some (W s ^ left)
+
+-- the slot that has k left after it, counted from 0
+abbrev pub slot_before : View → ℕ → ℕ
+slot_before s k = s.horizon - suc k
+
+-- the next one is the slot that has k left after it: where its rows of values and of plan bytes begin, and the next slot's row of values
+pub record SlotRows (s : View) (k left this next row : ℕ) : Type 0 where
+  pub left_low : k < s.horizon
+  pub left_is : left ≡ k
+  pub this_is : this ≡ place_at s (slot_before s k) 0
+  pub next_is : next ≡ place_at s (suc (slot_before s k)) 0
+  pub row_is : row ≡ place_at s (slot_before s k) 0
+
+-- the end row: with no slot left every queue has the value 0
+abbrev pub EndRow : Width → View → (values₀ values : List ℕ) → Type 0
+EndRow width s values₀ values = Fills width.places (value_in width) (λ i. some 0) (place_at s s.horizon 0) (N s) values₀ values
+
 -- what a slot with so many left after it leaves: every queue, in the row of the values that begins at place `this` and in the row of the
 -- plan that begins at place `row`
 pub record Planned (width : Width) (s : View) (left this row : ℕ) (values₀ plan₀ values plan : List ℕ) : Type 0 where

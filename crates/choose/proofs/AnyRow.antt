@@ -25,7 +25,6 @@ use Rattle.rows.specs.Rows.{RowAfter}
 use Rattle.sheets.specs.Sizes.{Measured}
 use Rattle.sheets.specs.declared.sizes.Sizes.{Sizes}
 use Rattle.rows.proofs.Rows.{after_says}
-use Rattle.speed_lanes.specs.Lanes.{SpeedTable}
 use Rattle.choose.specs.Choice.{cost_by, least_by, ahead_in, least_in, byte_of}
 use Rattle.choose.specs.Pass.{Given, LeftAll}
 use Rattle.choose.proofs.Choices.{least_same}
@@ -69,20 +68,19 @@ module _ (width : Width) (s : View) {sizes : Sizes} (m : Measured sizes) (g : Qu
   least_told scale n h = least_same (speed_at s) _ _ s.speed_count (λ j l. costs_told scale n h (speed_at s j) (energy_at s j))
 
   -- what the pass is given, where the function's bound and each scaled energy together pass no limit of a value
-  pub given_for : {lanes : List ℕ} (most : ℕ) {scale : Option ℕ} (unit : ℕ) → fields_refusal s ≡ 0 →
-      SpeedTable sizes.largest sizes.bound s lanes → ((v : Queue) → UptoOr (Unit {0}) (g v) most) → scale ≡ some unit →
-      ((j : ℕ) → j < s.speed_count → most + energy_at s j * unit ≤ width.limit) → Given width s sizes scale lanes ahead
-  given_for most {scale} unit fields table upto e low =
+  pub given_for : (most : ℕ) {scale : Option ℕ} (unit : ℕ) → fields_refusal s ≡ 0 → ((v : Queue) → UptoOr (Unit {0}) (g v) most) → scale ≡ some unit →
+      ((j : ℕ) → j < s.speed_count → most + energy_at s j * unit ≤ width.limit) → Given width s sizes scale ahead
+  given_for most {scale} unit fields upto e low =
       record {
         fields = fields;
         measured = m;
-        table = table;
         room =
             subst (λ (n : ℕ). n * width.places ≤ length ahead) (zero-add _ ∙ sym m.after_is) row.row.room;
-        fits = λ n j h k.
+        fits = λ n j v h k q.
             let w = queue_with sizes.largest sizes.bound n in
-            rw (costs_told scale n h (speed_at s j) (energy_at s j), e)
-            (bound_fits width (cost_by g (some unit) w (speed_at s j) (energy_at s j))
+            let told : cost_by g (some unit) w (speed_at s j) (energy_at s j) ≡ some v =
+            rw (costs_told scale n h (speed_at s j) (energy_at s j), e) at q in
+            rw told at (bound_fits width (cost_by g (some unit) w (speed_at s j) (energy_at s j))
             (cost_upto g most upto unit w (speed_at s j) (energy_at s j)) (low j k));
       }
 

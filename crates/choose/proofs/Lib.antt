@@ -2,3 +2,4 @@ pub mod Costs
 pub mod Choices
 pub mod Passing
 pub mod AnyRow
+pub mod Walk

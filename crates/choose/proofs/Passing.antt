@@ -5,11 +5,11 @@ use mathlib.Core.Path.{◌≡◌, refl, sym, ap, subst}
 use mathlib.Core.Bool.{false}
 use mathlib.Core.List.{List}
 use mathlib.Core.Logic.{◌⊎◌, inl, inr}
-use mathlib.Core.Option.{Option, none}
+use mathlib.Core.Option.{Option, none, some}
 use native.Mathlib.Nat.{eq-or-lt_of_le, le_refl, mul-le-mul_right}
 use native.Mathlib.Omega.{arith}
 use lib.Dec.{T}
-use lib.ListN.{length, get_or, set}
+use lib.ListN.{length, get_or}
 use Rattle.process.specs.Recursion.{plus, times}
 use Rattle.model.specs.View.{View, speed_at, energy_at}
 use Rattle.model.specs.Queue.{Queue, total, bearable, queue_count, number_of, run}
@@ -17,55 +17,49 @@ use Rattle.model.proofs.View.{later_faster}
 use Rattle.model.proofs.Queues.{bearable_at_lem, bearable_upto, number_below, length_in, length_run}
 use Rattle.model.proofs.Refusal.{Ranged, ranged}
 use Rattle.model.proofs.Tests.{fails_false, first_holds, first_upto, first_within}
-use Rattle.queues.specs.Blocks.{queue_with, first_of, start_of, lowest_of, last_of, number_in, InBlock, Alike}
+use Rattle.queues.specs.Blocks.{queue_with, first_of, lowest_of, last_of, number_in, InBlock, Alike}
 use Rattle.queues.proofs.Blocks.{block_place, block_alike, first_queue}
-use Rattle.buffers.specs.Fills.{Fills, number_at}
 use Rattle.model.specs.Width.{Width, value_in}
 use Rattle.value.specs.Values.{Fits}
-use Rattle.buffers.proofs.Filling.{fills_same, number_stored}
-use Rattle.rows.specs.Tables.{line_at}
+use Rattle.rows.specs.Tables.{IsLine}
 use Rattle.sheets.specs.declared.sizes.Sizes.{Sizes}
-use Rattle.sheets.proofs.Measures.{one_fewer}
-use Rattle.rows.proofs.Room.{after_room, most_total}
-use Rattle.rows.proofs.Tables.{Line, line_found}
-use Rattle.speed_lanes.specs.Lanes.{after_of, leads_on, slowest_in, lane_of, Lane}
+use Rattle.rows.proofs.Room.{most_total}
+use Rattle.speed_lanes.specs.Lanes.{after_of, leads_on, slowest_in, lane_of, speed_line, Lane}
 use Rattle.speed_lanes.proofs.Lanes.{leads_parts, leads_carries, leads_nowhere, lane_says}
 use Rattle.choose.specs.Choice.{cost_at, least_in, IsChoice}
-use Rattle.choose.specs.Pass.{Given, Within, Left}
+use Rattle.choose.specs.Pass.{Given, Within}
 use Rattle.choose.proofs.Choices.{least_small}
 use Rattle.choose.proofs.Costs.{cost_none, cost_some}
 
-module _ {width : Width} {s : View} {sizes : Sizes} {scale : Option ℕ} {lanes ahead : List ℕ}
-    (given : Given width s sizes scale lanes ahead) where
+-- a value that is no number above the limit fits
+upto_fits : (width : Width) (r : Option ℕ) → ((v : ℕ) → r ≡ some v → v ≤ width.limit) → Fits width r
+upto_fits width none upto = tt
+upto_fits width (some v) upto = upto v refl
+
+module _ {width : Width} {s : View} {sizes : Sizes} {scale : Option ℕ} {ahead : List ℕ} (given : Given width s sizes scale ahead) where
   abbrev M : ℕ
   M = sizes.largest
 
   abbrev D : ℕ
   D = sizes.bound
 
-  -- the line of block b, at a place of the table
-  abbrev pub LineAt : ℕ → ℕ → Type 0
-  LineAt b at =
-      Line s.speed_count (start_of M D b) (lowest_of M D b) (slowest_in M D s (first_of M D b))
-      (λ j. lane_of M D (first_of M D b) (speed_at s j)) at lanes
+  -- the line of block b
+  abbrev pub LineIs : ℕ → ℕ → ℕ → ℕ → List ℕ → Type 0
+  LineIs b number lowest third found = IsLine s.speed_count (speed_line M D s b) number lowest third found
 
   -- the sheet keeps its ranges
   in_range : Ranged s
   in_range = ranged s given.fields
 
-  -- the columns are within the table
-  pub columns_room : 9 + s.speed_count ≤ length lanes
-  columns_room = omega (arith, given.table.lines.room, in_range.speeds_high)
-
   -- (D-1) times M as the code works it out
   most_before : (D - 1) * M ≡ pred D * M
-  most_before = ap (λ (d : ℕ). d * M) (one_fewer D)
+  most_before = ap (λ (d : ℕ). d * M) (omega arith)
 
   -- with a speed, the last total at which its lane ends, it is small
-  pub end_small : {j : ℕ} → j < s.speed_count → (D - 1) * M + get_or lanes j 0 ≤ 56
-  end_small {j} h =
+  pub end_small : {j speed : ℕ} → j < s.speed_count → speed ≡ speed_at s j → (D - 1) * M + speed ≤ 56
+  end_small {j} h e =
       let fewer : D - 1 ≤ D = omega arith in
-      omega (arith, mul-le-mul_right M fewer, most_total given.measured, given.table.columns.firsts j h, in_range.speed_high j h)
+      omega (arith, e, mul-le-mul_right M fewer, most_total given.measured, in_range.speed_high j h)
 
   -- what is chosen in a queue has a speed that fits a byte
   pub byte_fits : (w : Queue) {speed : ℕ} {r : Option ℕ} → IsChoice (least_in width M D s ahead scale w) speed r → speed ≤ 255
@@ -92,13 +86,10 @@ module _ {width : Width} {s : View} {sizes : Sizes} {scale : Option ℕ} {lanes 
     pub lowest_high : lowest_of M D b ≤ D * M
     lowest_high = omega (arith, first_is.2, bearable_upto M first first_is.1 D (omega (arith, first_is.0)))
 
-    -- what is asked for where its line is looked for
-    pub line_asked : (9 ≤ 32) × (s.speed_count ≤ 32) × (b ≤ 65535)
-    line_asked = (omega arith, omega (arith, in_range.speeds_high), omega (arith, after_room given.measured))
-
-    -- its line is there
-    pub line_there : {at : ℕ} → at ≡ line_at 9 s.speed_count b → LineAt b at
-    line_there = line_found given.table.lines block_low
+    -- its first queue has its lowest last total
+    pub within_first : {x : ℕ} → x ≡ lowest_of M D b → Within sizes b x
+    within_first e =
+        record { block_low = block; last_low = omega arith; last_high = omega (arith, lowest_high) }
 
     -- the place of the slowest speed is no more than there are speeds
     pub slowest_few : slowest_in M D s first ≤ s.speed_count
@@ -135,6 +126,14 @@ module _ {width : Width} {s : View} {sizes : Sizes} {scale : Option ℕ} {lanes 
     pub number_low : number_in M D b x < sizes.queues
     number_low = omega (arith, placed.0.within, given.measured.queues_is)
 
+    -- and it is found as the code finds it
+    pub number_found : {number lowest third : ℕ} {found : List ℕ} → LineIs b number lowest third found →
+        (number + (x - lowest) ≡ number_in M D b x) × (number + (x - lowest) < sizes.queues)
+    number_found line = (
+      omega (arith, line.number_is, line.lowest_is),
+      omega (arith, line.number_is, line.lowest_is, number_low),
+    )
+
     -- a speed before the slowest that leads on costs none
     pub slower_none : (j : ℕ) → j < slowest_in M D s (first_of M D b) → cost_at width M D s ahead scale w j ≡ none
     slower_none j h =
@@ -152,58 +151,45 @@ module _ {width : Width} {s : View} {sizes : Sizes} {scale : Option ℕ} {lanes 
           (first_is inside.block_low).2
           (lane_says M D (first_of M D b) w (speed_at s j) given.measured.bound_low alike later (leads_from inside.block_low j low h))
 
-      -- past its end the speed costs none
-      pub cost_past : (D - 1) * M + get_or lanes j 0 < x → cost_at width M D s ahead scale w j ≡ none
-      cost_past past =
-          cost_none width M D ahead scale w (speed_at s j) (energy_at s j)
-          (lane.ends (omega (arith, placed.1, most_before, given.table.columns.firsts j h)))
+      -- whose speed the code finds
+      module _ {speed : ℕ} (speed_is : speed ≡ speed_at s j) where
+        -- past its end the speed costs none
+        pub cost_past : (D - 1) * M + speed < x → cost_at width M D s ahead scale w j ≡ none
+        cost_past past =
+            cost_none width M D ahead scale w (speed_at s j) (energy_at s j)
+            (lane.ends (omega (arith, placed.1, most_before, speed_is)))
 
-      -- before it the lane leads to a place of the buffer, found as the code finds it
-      module _ (before : x ≤ (D - 1) * M + get_or lanes j 0) {at from on : ℕ} (e : at ≡ line_at 9 s.speed_count b)
-          (larger : from ≡ max (get_or lanes j 0) (get_or lanes (at + 1) 0)) (above : on ≡ x - from) where
-        abbrev found : ℕ
-        found = get_or lanes (at + 3 + j) 0 + on
+        -- before it the lane leads to a place of the buffer, found as the code finds it
+        module _ (before : x ≤ (D - 1) * M + speed) {number lowest third from on : ℕ} {found : List ℕ}
+            (line : LineIs b number lowest third found) (larger : from ≡ max speed lowest) (above : on ≡ x - from) where
+          abbrev there : ℕ
+          there = get_or found j 0 + on
 
-        goes : T (leads_on M D w (speed_at s j)) × (number_of M (after_of D w (speed_at s j)) ≡ found)
-        goes =
-            let line = line_there inside.block_low e in
-            let speed = given.table.columns.firsts j h in
-            let g = lane.goes (omega (arith, placed.1, most_before, speed)) in
-            let begins : from ≡ max (speed_at s j) (lowest_of M D b) = cc (larger, speed, line.lowest_is) in
-            (g.0, omega (arith, g.1, line.lane_is j h, placed.1, above, begins))
+          goes : T (leads_on M D w (speed_at s j)) × (number_of M (after_of D w (speed_at s j)) ≡ there)
+          goes =
+              let g = lane.goes (omega (arith, placed.1, most_before, speed_is)) in
+              let begins : from ≡ max (speed_at s j) (lowest_of M D b) = cc (larger, speed_is, line.lowest_is) in
+              (g.0, omega (arith, g.1, line.lane_is j h, placed.1, above, begins))
 
-        -- the buffer has that place
-        pub found_low : found < sizes.after
-        found_low =
-            let shorter : length (after_of D w (speed_at s j)) ≡ pred D =
-            length_in (pred D) (run w (speed_at s j)) (omega (arith, length_run w (speed_at s j), alike.long_too)) in
-            omega (
-              arith,
-              number_below M (after_of D w (speed_at s j)) shorter (leads_parts M D w (speed_at s j) goes.0).1,
-              goes.1,
-              given.measured.after_is,
-            )
+          -- the buffer has that place
+          pub found_low : there < sizes.after
+          found_low =
+              let shorter : length (after_of D w (speed_at s j)) ≡ pred D =
+              length_in (pred D) (run w (speed_at s j)) (omega (arith, length_run w (speed_at s j), alike.long_too)) in
+              omega (
+                arith,
+                number_below M (after_of D w (speed_at s j)) shorter (leads_parts M D w (speed_at s j) goes.0).1,
+                goes.1,
+                given.measured.after_is,
+              )
 
-        -- what stands there and the scaled energy are what the speed costs
-        pub cost_there : {r : Option ℕ} → r ≡ value_in width ahead found →
-            plus r (times (get_or lanes (9 + j) 0) scale) ≡ cost_at width M D s ahead scale w j
-        cost_there load =
-            rw (load, given.table.columns.seconds j h, ← goes.1)
-            (sym (cost_some width M D ahead scale w (speed_at s j) (energy_at s j) goes.0))
+          -- what stands there and the scaled energy are what the speed costs
+          pub cost_there : {energy : ℕ} → energy ≡ energy_at s j → {r : Option ℕ} → r ≡ value_in width ahead there →
+              plus r (times (energy) scale) ≡ cost_at width M D s ahead scale w j
+          cost_there energy_is load =
+              rw (load, energy_is, ← goes.1)
+              (sym (cost_some width M D ahead scale w (speed_at s j) (energy_at s j) goes.0))
 
-        -- which does not exceed the limit of a value
-        pub cost_fits : {r : Option ℕ} → r ≡ value_in width ahead found → Fits width (plus r (times (get_or lanes (9 + j) 0) scale))
-        cost_fits load = subst (Fits width) (sym (cost_there load)) (given.fits _ j number_low h)
-
--- what is chosen in a queue, stored in both rows
-pub left_stored : {width : Width} {s : View} {sizes : Sizes} {scale : Option ℕ} {ahead : List ℕ} {this row n m speed : ℕ} {r : Option ℕ}
-    {values values' plan : List ℕ} → m ≡ n →
-    IsChoice (least_in width sizes.largest sizes.bound s ahead scale (queue_with sizes.largest sizes.bound n)) speed r →
-    Fills width.places (value_in width) (λ i. r) (this + m) 1 values values' → row + m < length plan →
-    Left width s sizes scale ahead this row n values plan values' (set plan (row + m) speed)
-left_stored {width} {row = row} {n = n} {speed = speed} {plan = plan} e chosen stored low =
-    rw e
-    (record {
-      value_filled = fills_same width.places (value_in width) (λ i h. chosen.value_is) (rw e at stored);
-      byte_filled = fills_same 1 number_at (λ i h. chosen.speed_is) (number_stored plan (row + n) speed (rw e at low));
-    })
+          -- which does not exceed the limit of a value
+          pub cost_fits : {energy : ℕ} → energy ≡ energy_at s j → {r : Option ℕ} → r ≡ value_in width ahead there → Fits width (plus r (times (energy) scale))
+          cost_fits energy_is load = subst (Fits width) (sym (cost_there energy_is load)) (upto_fits width _ (λ v. given.fits _ j v number_low h))

@@ -1,19 +1,13 @@
 // The least over the speeds in one queue.
 ghost use Rattle.std.specs.Prelude.{◌≡◌, ◌-◌, ◌≤◌, ◌<◌};
-ghost use Rattle.model.specs.View.{view_of};
-ghost use Rattle.queues.specs.Blocks.{queue_with, first_of, number_in};
-ghost use Rattle.value.specs.Narrow.{width, value_of};
-ghost use Rattle.speed_lanes.specs.Lanes.{slowest_in};
+ghost use Rattle.value.specs.Narrow.{width};
 ghost use Rattle.choose.specs.Choice.{cost_at, least_in, IsChoice, IsBetter};
-ghost use Rattle.choose.specs.Pass.{Given, Within};
+ghost use Rattle.choose.specs.Pass.{Within, queue_of, slowest_of, sheet_of, sizes_of};
 
-use limits::larger;
-use model::Sheet;
-use rows::line_at;
-use sheets::Sizes;
+use crate::pass::{Pass, Queue};
 use value::Value;
 
-// The speed of a queue that has none.
+// The speed of a queue that has none: 01 fixes the byte.
 const NO_SPEED: u32 = 255;
 
 // The least so far: a speed and what it costs; 255 and none where there is no speed yet.
@@ -23,77 +17,58 @@ pub struct Chosen {
     pub value: Value,
 }
 
-// How far a number is above another, 0 where it is not.
-fn above(a: u32, b: u32) -> u32
-    ensures { result ≡ a - b }
-{
-    if a < b {
-        return 0;
+impl Chosen {
+    // The least so far and one speed more. Speeds come in rising order, so that where two cost the same the slower one stays.
+    fn better(self, speed: u32, cost: Value) -> Chosen
+        ensures { IsBetter self.speed self.value speed cost result.speed result.value }
+    {
+        if cost.less_than(self.value) {
+            Chosen { speed, value: cost }
+        } else {
+            self
+        }
     }
-    a - b
 }
 
-// The least so far and one speed more. Speeds come in rising order, so that where two cost the same the slower one stays.
-fn better(best: Chosen, speed: u32, cost: Value) -> Chosen
-    ensures { IsBetter best.speed (value_of best.value) speed (value_of cost) result.speed (value_of result.value) }
-{
-    if value::less(cost, best.value) {
-        return Chosen { speed, value: cost };
+impl<'a> Pass<'a> {
+    // What a speed costs in a queue: its scaled energy and what is ahead after it, none past the end of its lane. The lane rises with the
+    // last total once that is above the speed.
+    pub fn cost(&self, queue: Queue, place: usize) -> Value
+        requires { Within (sizes_of self.now.lanes.now.of) queue.block queue.last ×
+            (slowest_of (sizes_of self.now.lanes.now.of) (sheet_of self.now.lanes.now.of) queue.block ≤ place) ×
+            (place < (sheet_of self.now.lanes.now.of).speed_count) }
+        ensures { result ≡ cost_at width (sizes_of self.now.lanes.now.of).largest (sizes_of self.now.lanes.now.of).bound
+            (sheet_of self.now.lanes.now.of) self.now.ahead.now self.now.scale (queue_of (sizes_of self.now.lanes.now.of) queue.block queue.last) place }
+    {
+        let lanes = self.lanes;
+        let tested = lanes.of.tested;
+        let sizes = tested.sizes;
+        let line = lanes.line(queue.block);
+        let speed = lanes.first(place);
+        if (sizes.bound as u32 - 1) * sizes.largest + speed < queue.last {
+            return Value::NONE;
+        }
+        let on = queue.last.saturating_sub(speed.max(line.lowest));
+        let rest = value::load(self.ahead, line.lanes[place] as usize + on as usize);
+        rest.plus_times(lanes.second(place), self.scale)
     }
-    best
-}
 
-// What a speed costs in the queue of a block that has this last total: its scaled energy and what is ahead after it, none past the end of
-// its lane. The lane rises with the last total once that is above the speed.
-pub fn cost(
-    sheet: Sheet,
-    sizes: Sizes,
-    scale: Value,
-    lanes: &[u32],
-    ahead: &[u64],
-    block: usize,
-    last: u32,
-    place: usize,
-) -> Value
-    requires { Given width (view_of sheet) sizes (value_of scale) lanes.now ahead.now × Within sizes block last ×
-        (slowest_in sizes.largest sizes.bound (view_of sheet) (first_of sizes.largest sizes.bound block) ≤ place) ×
-        (place < sheet.speed_count) }
-    ensures { value_of result ≡ cost_at width sizes.largest sizes.bound (view_of sheet) ahead.now (value_of scale)
-        (queue_with sizes.largest sizes.bound (number_in sizes.largest sizes.bound block last)) place }
-{
-    let at = line_at(9, sheet.speed_count, block);
-    let speed = lanes[place];
-    if (sizes.bound as u32 - 1) * sizes.largest + speed < last {
-        return value::none();
+    // The least over the speeds in a queue.
+    pub fn choose(&self, queue: Queue) -> Chosen
+        requires { Within (sizes_of self.now.lanes.now.of) queue.block queue.last }
+        ensures { IsChoice (least_in width (sizes_of self.now.lanes.now.of).largest (sizes_of self.now.lanes.now.of).bound
+            (sheet_of self.now.lanes.now.of) self.now.ahead.now self.now.scale (queue_of (sizes_of self.now.lanes.now.of) queue.block queue.last)) result.speed result.value }
+    {
+        let mut best = Chosen {
+            speed: NO_SPEED,
+            value: Value::NONE,
+        };
+        let lanes = self.lanes;
+        let tested = lanes.of.tested;
+        let slowest = lanes.line(queue.block).third as usize;
+        for place in slowest..tested.sheet.speed_count as usize {
+            best = best.better(lanes.first(place), self.cost(queue, place));
+        }
+        best
     }
-    let on = above(last, larger(speed, lanes[at + 1]));
-    let rest = value::load(ahead, lanes[at + 3 + place] as usize + on as usize);
-    value::add(rest, lanes[9 + place], scale)
-}
-
-// The least over the speeds in the queue of a block that has this last total.
-pub fn choose(
-    sheet: Sheet,
-    sizes: Sizes,
-    scale: Value,
-    lanes: &[u32],
-    ahead: &[u64],
-    block: usize,
-    last: u32,
-) -> Chosen
-    requires { Given width (view_of sheet) sizes (value_of scale) lanes.now ahead.now × Within sizes block last }
-    ensures { IsChoice (least_in width sizes.largest sizes.bound (view_of sheet) ahead.now (value_of scale)
-        (queue_with sizes.largest sizes.bound (number_in sizes.largest sizes.bound block last))) result.speed (value_of result.value) }
-{
-    let mut best = Chosen {
-        speed: NO_SPEED,
-        value: value::none(),
-    };
-    let mut place = lanes[line_at(9, sheet.speed_count, block) + 2] as usize;
-    while place < sheet.speed_count as usize {
-        let here = cost(sheet, sizes, scale, lanes, ahead, block, last, place);
-        best = better(best, lanes[place], here);
-        place += 1;
-    }
-    best
 }

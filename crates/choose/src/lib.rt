@@ -2,11 +2,11 @@
 // buffer of what is ahead after a slot; the planner says what that is.
 //
 // It reads the lanes of the speeds, a crate of their own, speed_lanes: each queue costs one look-up per speed (least), and a row is filled
-// block by block (row).
+// queue by queue (row). What it goes by, and the queues of a row one after the other, are in pass.
 #![tactic(auto)]
 
 mod least;
+mod pass;
 mod row;
 
-pub use least::cost;
-pub use row::fill;
+pub use pass::{Pass, Queue, Queues};

@@ -2,7 +2,7 @@
 // sheet or too slow. It is made for any buffer of what is ahead after a slot, and for any bytes; the planner's second pass, choose, takes
 // the least over all the speeds instead.
 //
-// It reads the lanes of the speeds as that one does: each queue costs one look-up (cost), and a row is filled block by block (row).
+// It goes by what that one goes by (choose's Pass): each queue costs one look-up (cost), and a row is filled queue by queue (row).
 #![tactic(auto)]
 
 mod cost;

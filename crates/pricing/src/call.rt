@@ -3,18 +3,19 @@ ghost use Rattle.std.specs.Prelude.{◌≡◌};
 ghost use Rattle.std.proofs.Math.Option.{get_or};
 ghost use Rattle.model.specs.View.{view_of};
 ghost use Rattle.model.specs.Plan.{number12};
-ghost use Rattle.value.specs.Narrow.{value_of};
 ghost use Rattle.pricing.specs.Calls.{IsPriced};
 
 use crate::slots::fill;
-use counts::table;
+use backward::Walk;
+use counts::Counts;
 use layout::place;
-use lent::plan_refusal;
+use lent::tested_for;
 use model::Sheet;
-use sheets::sizes_of;
+use refusals::Refusal;
 use value::Value;
 
-// What pricing answers: its number, how many queues there are, and the price from the empty queue at slot 0.
+// What pricing answers: its number, how many queues there are, and the price from the empty queue at slot 0. Request [2] fixes it, for
+// refusals too.
 #[derive(Clone, Copy)]
 pub struct PriceAnswer {
     pub number: u32,
@@ -24,19 +25,19 @@ pub struct PriceAnswer {
 
 // What is answered where the prices are filled: 12 where the empty queue has none.
 fn priced(queues: u32, price: Value) -> PriceAnswer
-    ensures { (result.number ≡ number12 (value_of price)) × (result.queues ≡ queues) × (result.price ≡ get_or (value_of price) 0) }
+    ensures { (result.number ≡ number12 price) × (result.queues ≡ queues) × (result.price ≡ get_or price 0) }
 {
-    if value::is_none(price) {
-        return PriceAnswer {
-            number: 12,
+    match price.number() {
+        Some(price) => PriceAnswer {
+            number: 0,
+            queues,
+            price,
+        },
+        None => PriceAnswer {
+            number: Refusal::NoWay.number(),
             queues,
             price: 0,
-        };
-    }
-    PriceAnswer {
-        number: 0,
-        queues,
-        price: value::number(price),
+        },
     }
 }
 
@@ -45,19 +46,18 @@ pub fn price(sheet: Sheet, values: &mut [u64], plan: &[u8]) -> PriceAnswer
     ensures { IsPriced (view_of sheet) plan.now values.old values.new
         result.number result.queues result.price }
 {
-    let counts = table();
-    let number = plan_refusal(&counts, sheet, values.len(), plan.len());
-    if number != 0 {
-        return PriceAnswer {
-            number,
+    let counts = Counts::new();
+    match tested_for(&counts, sheet, values.len(), plan.len()) {
+        Ok(tested) => {
+            let queues = tested.sizes.queues;
+            let walk = Walk { tested: &tested };
+            fill(&counts, &walk, values, plan);
+            priced(queues as u32, value::load(values, place(queues, 0, 0)))
+        }
+        Err(refusal) => PriceAnswer {
+            number: refusal.number(),
             queues: 0,
             price: 0,
-        };
+        },
     }
-    let sizes = sizes_of(&counts, sheet);
-    fill(&counts, sheet, sizes, values, plan);
-    priced(
-        sizes.queues as u32,
-        value::load(values, place(sizes.queues, 0, 0)),
-    )
 }

@@ -1,26 +1,40 @@
--- `fill` meets its contract. The loop's invariant: the queues of the blocks passed are filled.
-use Prim.Native.Nat.{pred}
-use mathlib.Core.Path.{◌≡◌}
-use native.Mathlib.Omega.{arith}
-use Rattle.model.specs.Queue.{queue_count}
-use Rattle.buffers.proofs.Filling.{value_local}
-use Rattle.rows.proofs.Blocks.{blocks_more, blocks_whole}
+-- `fill` meets its contract. The loop's invariant: the queues that come before the next one are filled.
+use Prim.Native.Nat.{◌<◌}
+use mathlib.Core.Path.{◌≡◌, refl, ap, ◌∙◌}
+use Rattle.queues.specs.Blocks.{lowest_of}
 use Rattle.value.specs.Narrow.{width}
-use Rattle.choose.proofs.Passing.{block_low}
+use Rattle.buffers.proofs.Filling.{value_local}
+use Rattle.choose.specs.declared.pass.Pass.{Pass}
+use Rattle.choose.specs.Pass.{sizes_of}
+use Rattle.choose.proofs.Walk.{queue_given, passed_none, passed_more, passed_whole}
 use Rattle.follow.proofs.row.fill.Goals as goal
 
-pub loop-block-preserved : goal.loop-block-preserved
-loop-block-preserved c =
-    let taken = c.loop-block-test.true in
-    let low = block_low c.requires.0 taken in
-    let block = c.fill_block.ensures in (
-      omega (arith, taken),
-      blocks_more (value_local width) low c.loop-block.invariant.1 block,
+pub loop-queue-init : goal.loop-queue-init
+loop-queue-init c =
+    let sizes = sizes_of c.args.pass.now.lanes.now.of in
+    let it = c.into_iter-queue-iterator.result in
+    let same = c.into_iter-queue-iterator.ensures.into_iter_gives in
+    let begun = c.queues-queue-items.ensures in
+    let block : it.block ≡ 0 = ap (λ q. q.block) same ∙ begun.1 in
+    let last : 0 < sizes.after → it.last ≡ lowest_of sizes.largest sizes.bound 0 = λ h. ap (λ q. q.last) same ∙ begun.2 h in (
+      tt,
+      ap (λ q. sizes_of q.pass.now.lanes.now.of) same ∙ ap (λ (p : Pass). sizes_of p.lanes.now.of) begun.0,
+      passed_none (value_local width) c.args.pass.now.given.measured block last,
+    )
+
+pub loop-queue-preserved : goal.loop-queue-preserved
+loop-queue-preserved c =
+    let given = c.in-Some.ensures.steps.1 in
+    let queue = queue_given c.loop-queue.invariant.1 given.0 given.1 given.2 given.3 in
+    let number = c.number-number.ensures.0 in (
+      tt,
+      ap (λ (p : Pass). sizes_of p.lanes.now.of) c.in-Some.ensures.steps.0 ∙ c.loop-queue.invariant.1,
+      passed_more (value_local width) c.args.pass.now.given.measured queue.0 {g = λ i. c.byte_cost-cost.result} queue.2
+          (number ∙ queue.1) refl (rw number (rw number at c.byte_cost-cost.ensures)) c.loop-queue.invariant.2
+          c.store.ensures,
     )
 
 pub returns : goal.returns
 returns c =
-    let measured = c.requires.0.measured in
-    let all : c.loop-block.block ≡ queue_count c.args.sizes.largest (pred c.args.sizes.bound) =
-    omega (arith, c.loop-block.invariant.0, c.loop-block-test.false, measured.after_is) in
-    blocks_whole (value_local width) all measured.queues_is c.loop-block.invariant.1
+    passed_whole (value_local width) c.args.pass.now.given.measured (c.in-None.ensures.steps.1 ∙ ap (λ s. s.after) c.loop-queue.invariant.1)
+    c.loop-queue.invariant.2

@@ -1,19 +1,15 @@
--- `fill_slots` meets its contract. The loop's invariant: so many slots are priced, from the last one back, and the scale is W to the power
--- of as many.
-use Prim.Native.Nat.{◌^◌, ◌≤◌, ◌-◌}
-use mathlib.Core.Option.{some}
+-- `fill_slots` meets its contract. The loop's invariant: so many slots are priced, from the last one back.
 use mathlib.Core.Path.{◌≡◌}
 use lib.ListN.{length}
-use Rattle.model.specs.View.{view_of, W}
-use Rattle.value.specs.Narrow.{width, value_of}
+use Rattle.model.specs.View.{view_of}
+use Rattle.value.specs.Narrow.{width}
 use Rattle.backward.specs.Passes.{FilledFrom}
 use Rattle.pricing.specs.Prices.{price_with}
 use Rattle.pricing.proofs.slots.fill_slots.Given as goal
 
-abbrev pub invariant-loop-left : goal.invariant-loop-left
-invariant-loop-left l =
-    (l.left ≤ l.sheet.horizon) × (length l.ahead ≡ 7084) × (value_of l.scale ≡ some (W (view_of l.sheet) ^ l.left)) ×
-    FilledFrom width (view_of l.sheet) (price_with (view_of l.sheet) l.plan) l.left l.initial.values l.values
-
-abbrev pub decreases-loop-left : goal.decreases-loop-left
-decreases-loop-left l = l.sheet.horizon - l.left
+abbrev pub invariant-loop-slot : goal.invariant-loop-slot
+invariant-loop-slot l =
+    let it = l.slot-iterator in
+    let s = view_of l.walk.tested.now.sheet in
+    (goal.iterator-loop-slot).is_finite it × (it.walk.tested.now.sheet ≡ l.walk.tested.now.sheet) × (length l.ahead ≡ 7084) ×
+    FilledFrom width s (price_with s l.plan) it.left l.initial.values l.values
