@@ -1,4 +1,4 @@
--- How many digits a number in decimal has: what each step of `length_in` knows, and how many there are at most.
+-- How many digits a number in decimal has at most.
 use Prim.Native.Nat.{ℕ, zero, suc, ◌+◌, ◌-◌, ◌^◌, ◌/◌, ◌%◌, ◌≤◌, ◌<◌}
 use mathlib.Core.Path.{◌≡◌, ap}
 use mathlib.Core.List.{[], ◌∷◌}
@@ -11,11 +11,11 @@ use Rattle.laws.proofs.Listing.{digits_last, digits_more}
 use Rattle.model.specs.Listing.{digit, digits_in}
 
 -- one digit's length
-pub single_length : (most x : ℕ) → 1 ≤ most → x < 10 → length (digits_in most x) ≡ 1
+single_length : (most x : ℕ) → 1 ≤ most → x < 10 → length (digits_in most x) ≡ 1
 single_length most x room h = ap length (digits_last most x room h)
 
 -- a greater number has one digit more than its tenth
-pub several_length : (most x : ℕ) → 1 ≤ most → 10 ≤ x → length (digits_in most x) ≡ length (digits_in (most - 1) (x / 10)) + 1
+several_length : (most x : ℕ) → 1 ≤ most → 10 ≤ x → length (digits_in most x) ≡ length (digits_in (most - 1) (x / 10)) + 1
 several_length most x room h =
     omega (arith, ap length (digits_more most x room h), length-append (digits_in (most - 1) (x / 10)) (digit (x % 10) ∷ []))
 

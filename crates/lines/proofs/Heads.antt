@@ -1,19 +1,9 @@
--- Laws of W to the power T, and of the header.
-use Prim.Native.Nat.{ℕ, ◌+◌, ◌*◌, ◌^◌}
+-- A law of the header.
+use Prim.Native.Nat.{ℕ, ◌+◌}
 use mathlib.Core.Path.{◌≡◌}
-use native.Mathlib.Nat.{pow-suc}
-use native.Mathlib.Numerals.{add-one}
 use native.Mathlib.Omega.{arith}
 use lib.ListN.{length, length-append}
 use Rattle.model.specs.Listing.{decimal, header}
-
--- W to the power T
-
--- one factor more
-pub power_next : {scale weight : ℕ} (w k : ℕ) → weight ≡ w → scale ≡ w ^ k → scale * weight ≡ w ^ (k + 1)
-power_next w k d e = rw (d, e, add-one, pow-suc)
-
--- the header
 
 -- as long as its three numbers and 22
 pub header_length : (queues scale least : ℕ) {a b c : ℕ} → a ≡ length (decimal queues) → b ≡ length (decimal scale) →

@@ -1,5 +1,5 @@
 -- What a listing answers (`list` of the model, specs/Listing.antt), in each of the three ways that it can end.
-use Prim.Native.Nat.{ℕ, ◌≤◌, ◌<◌}
+use Prim.Native.Nat.{ℕ}
 use mathlib.Core.Path.{◌≡◌, refl}
 use mathlib.Core.List.{List}
 use borrow.Author.Tests.{eqb-false}
@@ -11,7 +11,11 @@ use Rattle.model.specs.Listing.{scale_of, listing, list_refusal, list}
 use Rattle.model.specs.Plan.{row_refusal}
 use Rattle.model.specs.Refusal.{N}
 use Rattle.buffers.proofs.Laid.{laid_written}
-use Rattle.buffers.specs.Laid.{Laid}
+use Rattle.ranges.proofs.Answers.{number_some}
+use Rattle.refusals.specs.Numbers.{number_of_refusal, number_of}
+use Rattle.std.specs.Prelude.{Result, Ok, Err, MatchResult}
+use Rattle.refusals.specs.declared.Refusal.{Refusal}
+use Rattle.sinks.specs.Laws.{Written, TooShort, length_of}
 use Rattle.listing.specs.Calls.{IsListed}
 use Rattle.listing.specs.Whole.{whole_listing}
 
@@ -23,10 +27,10 @@ module _ (s : View) (least : ℕ) (plan : List ℕ) where
   refused_with buffer number e some = rw e (written_refused (listing s least plan) buffer some)
 
   -- the sheet is refused, or the plan is too short
-  pub listing_refused : (buffer : List ℕ) {number : ℕ} → number ≡ row_refusal s (length plan) → (number ≡ 0 → ⊥) →
-      IsListed s least plan buffer number 0 buffer
-  listing_refused buffer {number = number} e some =
-      refused_with buffer number (list_refused s least plan (length buffer) e some) some
+  pub listing_refused : (buffer : List ℕ) (why : Refusal) → number_of_refusal why ≡ row_refusal s (length plan) →
+      IsListed s least plan buffer (number_of_refusal why) 0 buffer
+  listing_refused buffer why e =
+      refused_with buffer (number_of_refusal why) (list_refused s least plan (length buffer) e (number_some why)) (number_some why)
 
   module _ {queues scale : ℕ} (accepted : row_refusal s (length plan) ≡ 0) (queues_are : queues ≡ N s) (scale_is : scale ≡ scale_of s) where
     -- what the code puts is the listing
@@ -34,16 +38,15 @@ module _ (s : View) (least : ℕ) (plan : List ℕ) where
     unfolding listing
     whole = rw (queues_are, scale_is)
 
-    -- the buffer is too short
-    pub listing_short : (buffer : List ℕ) → length buffer < length (whole_listing queues scale least plan s.horizon) →
-        IsListed s least plan buffer 11 0 buffer
-    listing_short buffer short =
-        refused_with buffer 11 (list_short s least plan (length buffer) accepted (rw whole at short)) (eqb-false 11 0 refl)
-
-    -- nothing is refused: the listing, laid from the first place on, is what is written
-    pub listing_done : {before after : List ℕ} {next : ℕ} → length (whole_listing queues scale least plan s.horizon) ≤ length before →
-        Laid 0 (whole_listing queues scale least plan s.horizon) before after next → IsListed s least plan before 0 next after
+    -- so what is written of it, or refused for want of room, is what the call answers
+    pub listing_ends : (before after : List ℕ) (r : Result ℕ Refusal) →
+        MatchResult r (Written (whole_listing queues scale least plan s.horizon) before after)
+        (TooShort (whole_listing queues scale least plan s.horizon) before after) →
+        IsListed s least plan before (number_of r) (length_of r) after
     unfolding list
-    listing_done {before = before} room laid =
-        laid_written (list_refusal s least plan (length before)) (list_fits s least plan (length before) accepted (rw whole at room))
-        (rw whole at room) (rw whole at laid)
+    listing_ends before after (Ok n) done =
+        let room = rw whole at done.room in
+        laid_written (list_refusal s least plan (length before)) (list_fits s least plan (length before) accepted room) room (rw whole at done.laid)
+    listing_ends before after (Err why) found =
+        rw (found.same, found.why_is)
+        (refused_with before 11 (list_short s least plan (length before) accepted (rw whole at found.short)) (eqb-false 11 0 refl))

@@ -18,7 +18,8 @@ use Rattle.model.proofs.Refusal.{accepted, power_fits}
 use Rattle.model.proofs.Tests.{and_right, check_zero, then_right, turn_times}
 use Rattle.listing.specs.Calls.{IsListed}
 use Rattle.layout.specs.Places.{place_in, byte_in}
-use Rattle.lines.specs.Lines.{line_at}
+use Rattle.lines.specs.Lines.{HasRows, line_at, lines_to}
+use Rattle.listing.specs.Whole.{whole_listing}
 use Rattle.decimals.proofs.Digits.{digits_upto}
 use Rattle.lines.proofs.Heads.{header_length}
 use Rattle.lines.proofs.Rows.{line_length}
@@ -77,3 +78,21 @@ listing_upto s least plan e h are =
     let slots = (accepted s e).ranged.horizon_high in
     let lines = turn_times (line_of_slot s plan) s.horizon (5 + 4 * N s) (λ t l. line_upto plan (N s) t are (omega (arith, slots))) in
     simp length-append (omega (arith, header_upto s least e h, lines))
+
+-- whatever the header tells, and so less than any count of bytes: 82 for the header, and at most 262,145 for each slot
+pub whole_upto : {plan : List ℕ} {queues slots : ℕ} (scale least : ℕ) → HasRows plan queues slots → scale < 2 ^ 64 → least < 2 ^ 64 →
+    AreBytes plan → length (whole_listing queues scale least plan slots) < 2 ^ 64
+whole_upto {plan} {queues} {slots} scale least has scale_fits least_fits are =
+    let lines : length (lines_to plan queues slots) ≤ slots * 262145 =
+    turn_times (line_at plan queues) slots 262145
+    (λ t l. omega (arith, line_upto plan queues t are (omega (arith, has.few_slots)), has.few_queues)) in
+    simp length-append
+    (omega (
+      arith,
+      header_length queues scale least refl refl refl,
+      digits_upto 20 20 queues (omega arith) (omega (arith, has.few_queues)),
+      digits_upto 20 20 scale (omega arith) (omega arith),
+      digits_upto 20 20 least (omega arith) (omega arith),
+      lines,
+      has.few_slots,
+    ))

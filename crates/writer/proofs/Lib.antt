@@ -1,3 +1,4 @@
 pub mod Lengths
 pub mod Coding
+pub mod Tables
 pub mod Outcomes

@@ -1,4 +1,4 @@
--- `put_price` meets its contract: a number of 64 bits has at most 20 digits, so that there is room, and the next place is as near as it says.
+-- `put_price` meets its contract: a number of 64 bits has at most 20 digits, so that there is room.
 use Prim.Native.Nat.{ℕ, ◌^◌, ◌≤◌, ◌<◌}
 use mathlib.Core.List.{◌++◌}
 use native.Mathlib.Omega.{arith}
@@ -12,7 +12,9 @@ enough : (x : ℕ) → x < 10 ^ 20 → length (text " rule " ++ decimal x) ≤ 2
 enough x h = simp length-append (omega (arith, digits_upto 20 20 x (omega arith) h))
 
 pub put_with_text-requires : goal.put_with_text-requires
-put_with_text-requires c = omega (arith, c.requires, enough c.args.priced.price (omega arith))
+put_with_text-requires g c =
+    g.met.S.Sink.takes.room_less c.args.sink.now (length (text " rule " ++ decimal c.args.priced.price)) 26
+    (enough c.args.priced.price (omega arith)) c.requires
 
-pub returns : goal.returns
-returns c = omega (arith, c.put_with_text.ensures.next_is, enough c.args.priced.price (omega arith))
+pub returns-in-0 : goal.returns-in-0
+returns-in-0 g c = (text " rule " ++ decimal c.args.priced.price, enough c.args.priced.price (omega arith), c.put_with_text.ensures)

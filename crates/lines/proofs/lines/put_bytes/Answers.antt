@@ -1,23 +1,19 @@
--- `put_bytes` meets its contract. The loop's invariant: the plan bytes passed are laid. Each has room, since all of them have.
-use mathlib.Core.Path.{ap, sym}
+-- `put_bytes` meets its contract. The loop's invariant: the plan bytes passed are put. Each has room, since all of them have.
+use mathlib.Core.Path.{refl}
 use Rattle.model.specs.Listing.{bytes_listed}
-use Rattle.buffers.proofs.Laid.{laid_to_none, laid_to_room, laid_to_more, laid_to_whole}
-use Rattle.lines.specs.Lines.{byte_listed}
+use Rattle.sinks.proofs.Parts.{put_to_none, put_to_room, put_to_more, put_to_whole}
 use Rattle.lines.proofs.lines.put_bytes.Goals as goal
 
-pub loop-queue-init : goal.loop-queue-init
+pub loop-byte-init : goal.loop-byte-init
 unfolding bytes_listed
-loop-queue-init c = (c.requires.0.few_queues, laid_to_none c.requires.1)
+loop-byte-init g c = put_to_none g.met.S.Sink.takes c.requires
 
-pub put_byte-next-requires : goal.put_byte-next-requires
-put_byte-next-requires c =
-    laid_to_room c.loop-queue.invariant.1 (ap byte_listed (sym c.byte_at.ensures)) c.loop-queue-test.true
+pub put_with_text-requires : goal.put_with_text-requires
+put_with_text-requires g c = put_to_room g.met.S.Sink.takes c.loop-byte.invariant c.loop-byte-test.true refl
 
-pub loop-queue-preserved : goal.loop-queue-preserved
-loop-queue-preserved c =
-    let l = c.loop-queue in
-    (l.invariant.0, laid_to_more l.invariant.1 (ap byte_listed (sym c.byte_at.ensures)) c.loop-queue-test.true c.put_byte-next.ensures)
+pub loop-byte-preserved : goal.loop-byte-preserved
+loop-byte-preserved g c = put_to_more g.met.S.Sink.takes c.loop-byte.invariant c.loop-byte-test.true refl c.put_with_text.ensures
 
 pub returns : goal.returns
 unfolding bytes_listed
-returns c = laid_to_whole c.loop-queue.invariant.1 c.loop-queue-test.false
+returns g c = put_to_whole g.met.S.Sink.takes c.loop-byte.invariant c.loop-byte-test.false

@@ -1,67 +1,54 @@
--- `put_line` meets its contract: the slot, the colon, the plan bytes and the line feed are laid, each behind the one before it.
-use Prim.Native.Nat.{ℕ, ◌+◌, ◌≤◌}
+-- `put_line` meets its contract: the slot, the colon, the plan bytes and the line feed are put, each behind the one before it.
+use Prim.Native.Nat.{ℕ}
 use mathlib.Core.List.{List, ◌++◌}
 use lib.ListN.{length}
 use Rattle.model.specs.Listing.{text, decimal, bytes_listed, line_of}
-use Rattle.buffers.proofs.Laid.{laid_then, room_first, room_then}
-use Rattle.layout.specs.Places.{byte_in}
+use Rattle.buffers.specs.Fills.{number_at}
+use Rattle.sinks.proofs.Parts.{room_first, room_then}
 use Rattle.lines.proofs.lines.put_line.Goals as goal
-use Rattle.lines.proofs.lines.put_line.Goals.{After-lay-at_bytes, After-put_decimal-at_colon, Start}
 
--- the line from a part on, where the plan bytes are those of a slot of a plan of so many queues
+-- the line from a part on, where the plan bytes are those of a row
 
-abbrev bytes : (plan : List ℕ) (queues slot : ℕ) → List ℕ
-bytes plan queues slot = bytes_listed (byte_in queues plan slot) queues
+abbrev bytes : List ℕ → List ℕ
+bytes row = bytes_listed (number_at row) (length row)
 
-abbrev from_bytes : (plan : List ℕ) (queues slot : ℕ) → List ℕ
-from_bytes plan queues slot = bytes plan queues slot ++ text "\n"
+abbrev from_bytes : List ℕ → List ℕ
+from_bytes row = bytes row ++ text "\n"
 
-abbrev from_colon : (plan : List ℕ) (queues slot : ℕ) → List ℕ
-from_colon plan queues slot = text ":" ++ from_bytes plan queues slot
+abbrev from_colon : List ℕ → List ℕ
+from_colon row = text ":" ++ from_bytes row
 
--- where a part begins, there is room for the line from it on
-
-room_slot : (c : Start) →
-    c.args.at + length (decimal c.args.slot ++ from_colon c.args.plan.now c.args.queues c.args.slot) ≤ length c.args.buffer.now
+pub put_decimal-requires : goal.put_decimal-requires
 unfolding line_of
-room_slot c = c.requires.1
+put_decimal-requires g c = room_first g.met.S.Sink.takes (decimal c.args.slot) (from_colon c.args.row.now) c.requires
 
-room_colon : (c : After-put_decimal-at_colon) →
-    c.args.at + length (decimal c.args.slot ++ from_colon c.args.plan.now c.args.queues c.args.slot) ≤ length c.args.buffer.now →
-    c.put_decimal-at_colon.result + length (from_colon c.args.plan.now c.args.queues c.args.slot) ≤ length c.put_decimal-at_colon.new.buffer
-room_colon c room = room_then _ c.put_decimal-at_colon.ensures room
+pub put-requires : goal.put-requires
+unfolding line_of
+put-requires g c =
+    let takes = g.met.S.Sink.takes in
+    let row = c.args.row.now in
+    room_first takes (text ":") (from_bytes row) (room_then takes (decimal c.args.slot) (from_colon row) c.put_decimal.ensures c.requires)
 
-room_bytes : (c : After-lay-at_bytes) →
-    c.put_decimal-at_colon.result + length (from_colon c.args.plan.now c.args.queues c.args.slot) ≤ length c.put_decimal-at_colon.new.buffer →
-    c.lay-at_bytes.result + length (from_bytes c.args.plan.now c.args.queues c.args.slot) ≤ length c.lay-at_bytes.new.buffer
-room_bytes c room = room_then {l = text ":"} (from_bytes c.args.plan.now c.args.queues c.args.slot) c.lay-at_bytes.ensures room
+pub put_bytes-requires : goal.put_bytes-requires
+unfolding line_of
+put_bytes-requires g c =
+    let takes = g.met.S.Sink.takes in
+    let row = c.args.row.now in
+    room_first takes (bytes row) (text "\n")
+    (room_then takes (text ":") (from_bytes row) c.put.ensures (room_then takes (decimal c.args.slot) (from_colon row) c.put_decimal.ensures c.requires))
 
-pub put_decimal-at_colon-requires : goal.put_decimal-at_colon-requires
-put_decimal-at_colon-requires c =
-    let e = goal.at.put_decimal-at_colon-requires c in
-    room_first _ _ (decimal c.args.slot) (from_colon c.args.plan.now c.args.queues c.args.slot) (room_slot e.Start)
-
-pub lay-at_bytes-requires : goal.lay-at_bytes-requires
-lay-at_bytes-requires c =
-    let e = goal.at.lay-at_bytes-requires c in
-    room_first _ _ (text ":") (from_bytes c.args.plan.now c.args.queues c.args.slot)
-    (room_colon e.After-put_decimal-at_colon (room_slot e.Start))
-
-pub put_bytes-at_end-requires : goal.put_bytes-at_end-requires
-put_bytes-at_end-requires c =
-    let e = goal.at.put_bytes-at_end-requires c in
-    let room = room_bytes e.After-lay-at_bytes (room_colon e.After-put_decimal-at_colon (room_slot e.Start)) in
-    (c.requires.0, room_first _ _ (bytes c.args.plan.now c.args.queues c.args.slot) (text "\n") room)
-
-pub lay-requires : goal.lay-requires
-lay-requires c =
-    let e = goal.at.lay-requires c in
-    room_then (text "\n") c.put_bytes-at_end.ensures
-    (room_bytes e.After-lay-at_bytes (room_colon e.After-put_decimal-at_colon (room_slot e.Start)))
+pub put-requires-2 : goal.put-requires-2
+unfolding line_of
+put-requires-2 g c =
+    let takes = g.met.S.Sink.takes in
+    let row = c.args.row.now in
+    room_then takes (bytes row) (text "\n") c.put_bytes.ensures
+    (room_then takes (text ":") (from_bytes row) c.put.ensures (room_then takes (decimal c.args.slot) (from_colon row) c.put_decimal.ensures c.requires))
 
 pub returns : goal.returns
 unfolding line_of
-returns c =
-    let bytes_laid = laid_then c.put_bytes-at_end.ensures c.lay.ensures in
-    let colon_laid = laid_then {l = text ":"} c.lay-at_bytes.ensures bytes_laid in
-    laid_then c.put_decimal-at_colon.ensures colon_laid
+returns g c =
+    let takes = g.met.S.Sink.takes in
+    let row = c.args.row.now in
+    takes.more _ _ _ (decimal c.args.slot) (from_colon row) c.put_decimal.ensures
+    (takes.more _ _ _ (text ":") (from_bytes row) c.put.ensures (takes.more _ _ _ (bytes row) (text "\n") c.put_bytes.ensures c.put-2.ensures))
