@@ -1,228 +1,264 @@
 // What a line asks for: its words are taken from the left, until one is wrong.
-use crate::kinds::{
-    ALL_LENT, BLANK, BUFFER, COMMENT, EACH, GREATEST_COUNT, HEX_BYTE, LEAST_COUNT, MOST_FIRST,
-    MOST_LATER, NOTHING, PART, PLACE, REACH, REST, SET_JOB, SET_SPEED, cell, kind_of,
-};
-use crate::words::{DECIMAL, HEX, LETTERS, Number, Word, no_number, one_more, value_of, word_at};
+use crate::memory::{BYTES, PLAN_BYTES, VALUES};
+use crate::problem::{Failure, Problem};
+use crate::words::{Word, Words};
+use model::{Job, Speed};
+use std::alloc::Global;
+use std::ops::Range;
+use stepper::State;
 
-// How far a line has been taken: there may be more of it, it is right, or something is wrong with it.
-const MORE: u32 = 0;
+// A line feed that ends a line is not counted.
+pub const LONGEST_LINE: usize = 65536;
 
-const RIGHT: u32 = 1;
+// `Nothing` is asked by a line without words, and `Copy` by one that begins with `#`; the others have the names of their words. What is put
+// into places comes with the first of them.
+#[derive(Drop)]
+pub enum Request<'a> {
+    Nothing,
+    Copy(&'a [u8]),
+    Clear,
+    Set(Field),
+    Lend(Buffer, usize),
+    FillValues(u64),
+    FillPlan(u8),
+    FillBytes(u8),
+    PutValues(usize, Vec<u64>),
+    PutPlan(usize, Vec<u8>),
+    PutBytes(usize, Vec<u8>),
+    Bytes(Vec<u8>),
+    Show(Shown),
+    Sum(Buffer, Range<usize>),
+    Call(Call),
+}
 
-pub const UNKNOWN: u32 = 2;
-
-pub const TOO_LONG: u32 = 3;
-
-pub const MISSING: u32 = 4;
-
-pub const NO_NUMBER: u32 = 5;
-
-pub const TOO_MANY: u32 = 6;
-
-pub const NOT_LENT: u32 = 7;
-
-// The kind of a line, and how many words say it; how many numbers were taken, and the first two of them; the place behind what was taken,
-// and the place where the numbers to be put into memory begin; how far the line has been taken, and the greatest number that was allowed
-// where it is wrong.
 #[derive(Clone, Copy)]
-pub struct Request {
-    pub kind: usize,
-    pub words: u64,
-    pub count: u64,
-    pub first: u64,
-    pub second: u64,
-    pub at: usize,
-    pub start: usize,
-    pub taken: u32,
-    pub most: u64,
+pub enum Buffer {
+    Values,
+    Plan,
+    Bytes,
 }
 
-// A line of which so many words are taken, to this place.
-fn begun(kind: usize, words: u64, at: usize, taken: u32) -> Request {
-    Request {
-        kind,
-        words,
-        count: 0,
-        first: 0,
-        second: 0,
-        at,
-        start: at,
-        taken,
-        most: 0,
-    }
+// A field of the sheet, one of its entries by the place of it, or the state.
+#[derive(Clone, Copy)]
+pub enum Field {
+    Bound(u32),
+    SpeedCount(u32),
+    Horizon(u32),
+    JobCount(u32),
+    Speed(usize, Speed),
+    Job(usize, Job),
+    State(State),
 }
 
-// A line that has words: the first two say its kind, or the first alone.
-fn named(line: &[u8], first: Word) -> Request {
-    let second = word_at(line, first.to);
-    let name = value_of(line, first, LETTERS);
-    let object = value_of(line, second, LETTERS);
-    let both = kind_of(name.value, object.value);
-    if object.right && both != NOTHING {
-        return begun(both, 2, second.to, MORE);
-    }
-    let one = kind_of(name.value, 0);
-    if one == NOTHING {
-        return begun(NOTHING, 0, 0, UNKNOWN);
-    }
-    begun(one, 1, first.to, MORE)
+#[derive(Drop)]
+pub enum Shown {
+    Sheet,
+    Speeds,
+    Jobs,
+    State,
+    Values(Range<usize>),
+    Plan(Range<usize>),
+    Bytes(Range<usize>),
+    Text(Range<usize>),
 }
 
-// A line of which the kind has been taken.
-fn opened(line: &[u8]) -> Request {
-    if line.len() == 0 {
-        return begun(BLANK, 0, 0, RIGHT);
-    }
-    if line[0] == 35 {
-        return begun(COMMENT, 0, 0, RIGHT);
-    }
-    let first = word_at(line, 0);
-    if first.from == first.to {
-        return begun(BLANK, 0, 0, RIGHT);
-    }
-    named(line, first)
+#[derive(Clone, Copy)]
+pub enum Call {
+    Read,
+    ReadPlan,
+    Write,
+    Plan,
+    Rule,
+    Price,
+    Row(u32),
+    SumRow(u32),
+    List(Option<u64>),
+    Start,
+    Advance { size: u32, deadline: u32 },
 }
 
-// A request that something is wrong with.
-fn refused(request: Request, problem: u32, most: u64) -> Request {
-    let mut next = request;
-    next.kind = NOTHING;
-    next.taken = problem;
-    next.most = most;
-    next
-}
-
-// A request whose line has ended.
-fn ended(request: Request) -> Request {
-    if request.count < cell(request.kind, LEAST_COUNT) {
-        return refused(request, MISSING, 0);
-    }
-    let mut next = request;
-    next.taken = RIGHT;
-    next
-}
-
-// The number that a word says, where it is a number and at most `most`.
-fn number_of(line: &[u8], word: Word, most: u64) -> Number {
-    if most == HEX_BYTE {
-        if word.to < 2 || word.to - 2 != word.from {
-            return no_number();
-        }
-        return value_of(line, word, HEX);
-    }
-    let number = value_of(line, word, DECIMAL);
-    if most < number.value {
-        return no_number();
-    }
-    number
-}
-
-// The greatest number that may stand behind `count` others.
-fn most_behind(kind: usize, count: u64) -> u64 {
-    if count == 0 {
-        return cell(kind, MOST_FIRST);
-    }
-    cell(kind, MOST_LATER)
-}
-
-// A request and one number more, which ends before this place.
-fn with_number(request: Request, number: u64, at: usize) -> Request {
-    let mut next = request;
-    next.count = one_more(request.count);
-    next.at = at;
-    if request.count == 1 {
-        next.second = number;
-    }
-    if request.count == 0 {
-        next.first = number;
-        if cell(request.kind, REACH) == REST {
-            next.start = at;
+impl Buffer {
+    fn named(word: &[u8]) -> Result<Buffer, Problem> {
+        match word {
+            b"values" => Ok(Buffer::Values),
+            b"plan" => Ok(Buffer::Plan),
+            b"bytes" => Ok(Buffer::Bytes),
+            _ => Err(Problem::Unknown),
         }
     }
-    next
-}
 
-// Takes the next word.
-fn take(request: Request, line: &[u8]) -> Request {
-    let word = word_at(line, request.at);
-    if word.from == word.to {
-        return ended(request);
-    }
-    if cell(request.kind, GREATEST_COUNT) <= request.count {
-        return refused(request, TOO_MANY, 0);
-    }
-    let most = most_behind(request.kind, request.count);
-    let number = number_of(line, word, most);
-    if !number.right {
-        return refused(request, NO_NUMBER, most);
-    }
-    with_number(request, number.value, word.to)
-}
-
-// Takes every word. The loop counts its turns down, and a line has fewer words than bytes.
-pub fn request_of(line: &[u8]) -> Request {
-    let mut request = opened(line);
-    let mut turns = line.len();
-    while 0 < turns {
-        if request.taken != MORE {
-            return request;
+    // How many places it has.
+    fn places(self) -> usize {
+        match self {
+            Buffer::Values => VALUES,
+            Buffer::Plan => PLAN_BYTES,
+            Buffer::Bytes => BYTES,
         }
-        request = take(request, line);
-        turns -= 1;
     }
-    request
+
+    // A place of it, or a count of places.
+    fn place(self, words: &mut Words) -> Result<usize, Problem> {
+        Ok(words.number(self.places() as u64)? as usize)
+    }
+
+    // Places of it: the first one, and how many there are.
+    fn part(self, words: &mut Words) -> Result<Range<usize>, Problem> {
+        let from = self.place(words)?;
+        let count = self.place(words)?;
+        Ok(from..from.saturating_add(count))
+    }
 }
 
-// The first place of memory that a line reaches.
-pub fn first_place(request: Request) -> u64 {
-    let place = cell(request.kind, PLACE) % 1048576;
-    let number = request.first % 1048576;
-    if request.kind == SET_SPEED {
-        return place + 2 * number;
+// What a line asks for, or what is wrong with it.
+pub fn request_of(alloc: Global, line: &[u8]) -> Result<Request<'_>, Failure> {
+    if LONGEST_LINE < line.len() {
+        return Err(Failure::from(Problem::TooLong { most: LONGEST_LINE }));
     }
-    if request.kind == SET_JOB {
-        return place + 3 * number;
+    if line.first() == Some(&b'#') {
+        return Ok(Request::Copy(line));
     }
-    let reach = cell(request.kind, REACH);
-    if reach == REST || reach == PART {
-        return place + number;
-    }
-    place
+    let mut words = Words::of(line);
+    let Some(name) = words.next() else {
+        return Ok(Request::Nothing);
+    };
+    let request = named(alloc, name.text, &mut words)?;
+    words.end()?;
+    Ok(request)
 }
 
-// How many places of memory a line reaches, where so many of its buffer are lent.
-pub fn place_count(request: Request, lent: u64) -> u64 {
-    let reach = cell(request.kind, REACH);
-    if reach == PART {
-        return request.second;
-    }
-    if reach == ALL_LENT {
-        return lent;
-    }
-    if ALL_LENT < reach {
-        return reach;
-    }
-    if reach == EACH {
-        return request.count;
-    }
-    if request.count == 0 {
-        return 0;
-    }
-    request.count - 1
+// The request of a line with this first word, of whose other words it takes what it needs.
+fn named<'a>(alloc: Global, name: &[u8], words: &mut Words) -> Result<Request<'a>, Failure> {
+    let request = match name {
+        b"clear" => Request::Clear,
+        b"set" => Request::Set(field_of(object(words)?, words)?),
+        b"lend" => {
+            let buffer = Buffer::named(object(words)?)?;
+            Request::Lend(buffer, buffer.place(words)?)
+        }
+        b"fill" => fill_of(Buffer::named(object(words)?)?, words)?,
+        b"put" => put_of(alloc, Buffer::named(object(words)?)?, words)?,
+        b"bytes" => Request::Bytes(words.all(alloc, Word::hex_byte)?),
+        b"show" => Request::Show(shown_of(object(words)?, words)?),
+        b"sum" => sum_of(object(words)?, words)?,
+        _ => Request::Call(call_of(name, words)?),
+    };
+    Ok(request)
 }
 
-// What is looked at last: whether the line fits its room, and whether the places that it reaches are among the lent ones of its buffer.
-pub fn checked(request: Request, fits: bool, lent: u64) -> Request {
-    if !fits {
-        return refused(request, TOO_LONG, 0);
+// The second word, which says with the first what a line asks for.
+fn object<'a>(words: &mut Words<'a>) -> Result<&'a [u8], Problem> {
+    Ok(words.next().ok_or(Problem::Unknown)?.text)
+}
+
+// A sheet has places for nine speeds and 32 jobs.
+fn field_of(object: &[u8], words: &mut Words) -> Result<Field, Problem> {
+    let field = match object {
+        b"bound" => Field::Bound(words.narrow()?),
+        b"speeds" => Field::SpeedCount(words.narrow()?),
+        b"horizon" => Field::Horizon(words.narrow()?),
+        b"jobs" => Field::JobCount(words.narrow()?),
+        b"speed" => Field::Speed(
+            words.number(8)? as usize,
+            Speed {
+                speed: words.narrow()?,
+                energy: words.narrow()?,
+            },
+        ),
+        b"job" => Field::Job(
+            words.number(31)? as usize,
+            Job {
+                weight: words.narrow()?,
+                size: words.narrow()?,
+                deadline: words.narrow()?,
+            },
+        ),
+        b"state" => Field::State(state_of(words)?),
+        _ => return Err(Problem::Unknown),
+    };
+    Ok(field)
+}
+
+fn state_of(words: &mut Words) -> Result<State, Problem> {
+    let mut queue = [0; 6];
+    for total in &mut queue {
+        *total = words.narrow()?;
     }
-    if cell(request.kind, BUFFER) == 0 {
-        return request;
-    }
-    let from = first_place(request);
-    if from <= lent && place_count(request, lent) <= lent - from {
-        return request;
-    }
-    refused(request, NOT_LENT, lent)
+    Ok(State {
+        queue,
+        slot: words.narrow()?,
+        energy: words.narrow()?,
+    })
+}
+
+fn fill_of<'a>(buffer: Buffer, words: &mut Words) -> Result<Request<'a>, Problem> {
+    let word = words.needed()?;
+    Ok(match buffer {
+        Buffer::Values => Request::FillValues(word.value()?),
+        Buffer::Plan => Request::FillPlan(word.byte()?),
+        Buffer::Bytes => Request::FillBytes(word.hex_byte()?),
+    })
+}
+
+fn put_of<'a>(alloc: Global, buffer: Buffer, words: &mut Words) -> Result<Request<'a>, Failure> {
+    let place = buffer.place(words)?;
+    // At least one number must follow.
+    let mut ahead = *words;
+    ahead.needed()?;
+    Ok(match buffer {
+        Buffer::Values => { Request::PutValues(place, words.all(alloc, Word::value)?) }
+        Buffer::Plan => Request::PutPlan(place, words.all(alloc, Word::byte)?),
+        Buffer::Bytes => Request::PutBytes(place, words.all(alloc, Word::hex_byte)?),
+    })
+}
+
+fn shown_of(object: &[u8], words: &mut Words) -> Result<Shown, Problem> {
+    let shown = match object {
+        b"sheet" => Shown::Sheet,
+        b"speeds" => Shown::Speeds,
+        b"jobs" => Shown::Jobs,
+        b"state" => Shown::State,
+        b"values" => Shown::Values(Buffer::Values.part(words)?),
+        b"plan" => Shown::Plan(Buffer::Plan.part(words)?),
+        b"bytes" => Shown::Bytes(Buffer::Bytes.part(words)?),
+        b"text" => Shown::Text(Buffer::Bytes.part(words)?),
+        _ => return Err(Problem::Unknown),
+    };
+    Ok(shown)
+}
+
+fn sum_of<'a>(object: &[u8], words: &mut Words) -> Result<Request<'a>, Problem> {
+    Ok(match object {
+        b"row" => Request::Call(Call::SumRow(words.narrow()?)),
+        _ => {
+            let buffer = Buffer::named(object)?;
+            Request::Sum(buffer, buffer.part(words)?)
+        }
+    })
+}
+
+// Any other word begins no line.
+fn call_of(name: &[u8], words: &mut Words) -> Result<Call, Problem> {
+    let call = match name {
+        b"read" => match words.next() {
+            None => Call::Read,
+            Some(Word { text: b"plan", .. }) => Call::ReadPlan,
+            Some(word) => return Err(word.one_too_many()),
+        },
+        b"write" => Call::Write,
+        b"plan" => Call::Plan,
+        b"rule" => Call::Rule,
+        b"price" => Call::Price,
+        b"row" => Call::Row(words.narrow()?),
+        b"list" => match words.next() {
+            None => Call::List(None),
+            Some(word) => Call::List(Some(word.value()?)),
+        },
+        b"start" => Call::Start,
+        b"advance" => Call::Advance {
+            size: words.narrow()?,
+            deadline: words.narrow()?,
+        },
+        _ => return Err(Problem::Unknown),
+    };
+    Ok(call)
 }

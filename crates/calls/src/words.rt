@@ -1,149 +1,141 @@
-// The words of a line, and what a word says: a number in decimal, a byte in hex, or a name.
+// The words of a line, and the number that a word says.
+ghost use Rattle.std.specs.Prelude.{◌≤◌, length, IfOk};
+ghost use Rattle.std.specs.Iterator.{at_most};
 
-// A name is read as a number, too: its letters' codes are digits of this base.
-pub const LETTERS: u64 = 256;
+use crate::problem::{Failure, Problem};
+use std::alloc::Global;
 
-pub const DECIMAL: u64 = 10;
-
-pub const HEX: u64 = 16;
-
-// A word: its first place and the place behind it, which are the same where no word is left.
+// A word, and which word of its line it is, counted from 1.
 #[derive(Clone, Copy)]
-pub struct Word {
-    pub from: usize,
-    pub to: usize,
+pub struct Word<'a> {
+    pub count: u64,
+    pub text: &'a [u8],
 }
 
-// A number, where there is one.
+impl Word<'_> {
+    // The number that it says in decimal digits.
+    pub fn number(self, most: u64) -> Result<u64, Problem>
+        ensures { IfOk result (λ number. number ≤ most) }
+    {
+        match decimal(self.text) {
+            Some(number) if number <= most => Ok(number),
+            _ => Err(Problem::NoNumber {
+                word: self.count,
+                most,
+            }),
+        }
+    }
+
+    // A value is any number of 64 bits.
+    pub fn value(self) -> Result<u64, Problem> {
+        self.number(u64::MAX)
+    }
+
+    pub fn byte(self) -> Result<u8, Problem> {
+        Ok(self.number(u64::from(u8::MAX))? as u8)
+    }
+
+    // The byte that it says in two hex digits.
+    pub fn hex_byte(self) -> Result<u8, Problem> {
+        hex_byte(self.text).ok_or(Problem::NoByte { word: self.count })
+    }
+
+    pub fn one_too_many(self) -> Problem {
+        Problem::TooMany { word: self.count }
+    }
+}
+
+// The number that decimal digits alone say, where it fits 64 bits. `parse` takes a sign, too.
+fn decimal(text: &[u8]) -> Option<u64> {
+    if !text.iter().all(u8::is_ascii_digit) {
+        return None;
+    }
+    str::from_utf8(text).ok()?.parse().ok()
+}
+
+// The byte that two hex digits say. `from_str_radix` takes a sign, too.
+fn hex_byte(text: &[u8]) -> Option<u8> {
+    if text.len() != 2 || !text.iter().all(u8::is_ascii_hexdigit) {
+        return None;
+    }
+    u8::from_str_radix(str::from_utf8(text).ok()?, 16).ok()
+}
+
+// The words that are left of a line, and how many were taken. Only spaces stand between words.
+// (A `split` by a closure has no type that a function here could name, and does not count the words.)
 #[derive(Clone, Copy)]
-pub struct Number {
-    pub right: bool,
-    pub value: u64,
+pub struct Words<'a> {
+    rest: &'a [u8],
+    taken: u64,
 }
 
-// One more, and never past the greatest number of 64 bits.
-pub fn one_more(count: u64) -> u64 {
-    if count < 18446744073709551615 {
-        return count + 1;
-    }
-    count
-}
+impl<'a> Iterator for Words<'a> {
+    type Item = Word<'a>;
 
-// A word and one letter more, the one before place `behind`: a space before the word is skipped, and one after it changes nothing.
-fn with_letter(word: Word, letter: u8, behind: usize) -> Word {
-    if letter != 32 {
-        return Word {
-            from: word.from,
-            to: behind,
-        };
-    }
-    if word.from < word.to {
-        return word;
-    }
-    Word {
-        from: behind,
-        to: behind,
+    ghost remaining = { λ words. at_most (length words.rest.now) };
+
+    fn next(&mut self) -> Option<Word<'a>> {
+        let start = self.rest.iter().position(|byte| *byte != b' ')?;
+        let rest = &self.rest[start..];
+        let end = rest
+            .iter()
+            .position(|byte| *byte == b' ')
+            .unwrap_or(rest.len());
+        self.rest = &rest[end..];
+        self.taken = self.taken.saturating_add(1);
+        Some(Word {
+            count: self.taken,
+            text: &rest[..end],
+        })
     }
 }
 
-// The first word from here on.
-pub fn word_at(line: &[u8], from: usize) -> Word {
-    let mut word = Word { from, to: from };
-    let mut at = from;
-    while at < line.len() {
-        let next = with_letter(word, line[at], at + 1);
-        if next.to == word.to {
-            return word;
+impl<'a> Words<'a> {
+    pub fn of(line: &'a [u8]) -> Words<'a> {
+        Words {
+            rest: line,
+            taken: 0,
         }
-        word = next;
-        at += 1;
     }
-    word
-}
 
-// The value of a letter as a digit of a base; the base itself where it is no digit.
-fn digit_of(letter: u8, base: u64) -> u64 {
-    if base == LETTERS {
-        if letter == 0 {
-            return base;
+    // The next word, which must be there.
+    pub fn needed(&mut self) -> Result<Word<'a>, Problem> {
+        self.next().ok_or(Problem::Missing {
+            word: self.taken.saturating_add(1),
+        })
+    }
+
+    pub fn number(&mut self, most: u64) -> Result<u64, Problem>
+        ensures { IfOk result (λ number. number ≤ most) }
+    {
+        self.needed()?.number(most)
+    }
+
+    // A number of 32 bits.
+    pub fn narrow(&mut self) -> Result<u32, Problem> {
+        Ok(self.number(u64::from(u32::MAX))? as u32)
+    }
+
+    // Nothing may stand behind what was taken.
+    pub fn end(&mut self) -> Result<(), Problem> {
+        match self.next() {
+            Some(word) => Err(word.one_too_many()),
+            None => Ok(()),
         }
-        return letter as u64;
     }
-    if letter < 48 {
-        return base;
-    }
-    if letter < 58 {
-        return letter as u64 - 48;
-    }
-    if base == DECIMAL || letter < 65 {
-        return base;
-    }
-    if letter < 71 {
-        return letter as u64 - 55;
-    }
-    if letter < 97 || 102 < letter {
-        return base;
-    }
-    letter as u64 - 87
-}
 
-// No number.
-pub fn no_number() -> Number {
-    Number {
-        right: false,
-        value: 0,
-    }
-}
-
-// A number and one digit more, where that still fits 64 bits.
-fn with_digit(number: Number, digit: u64, base: u64) -> Number {
-    if !number.right || base <= digit {
-        return no_number();
-    }
-    if 255 < digit {
-        return no_number();
-    }
-    if 1844674407370955161 < number.value {
-        return no_number();
-    }
-    if base == DECIMAL {
-        let tens = number.value * 10;
-        if 18446744073709551615 - tens < digit {
-            return no_number();
+    // All words that are left, each read in the same way.
+    pub fn all<T: Drop, F: Fn(Word<'a>) -> Result<T, Problem>>(
+        &mut self,
+        alloc: Global,
+        read: F,
+    ) -> Result<Vec<T>, Failure>
+        requires { F.IsAlwaysCallable read }
+    {
+        let mut items = Vec::new(alloc);
+        for word in self {
+            items.push(read(word)?)?;
         }
-        return Number {
-            right: true,
-            value: tens + digit,
-        };
+        Ok(items)
     }
-    if 72057594037927936 <= number.value {
-        return no_number();
-    }
-    if base == HEX {
-        return Number {
-            right: true,
-            value: number.value * 16 + digit,
-        };
-    }
-    Number {
-        right: true,
-        value: number.value * 256 + digit,
-    }
-}
-
-// The number that a word says with digits of a base.
-pub fn value_of(line: &[u8], word: Word, base: u64) -> Number {
-    let mut number = Number {
-        right: word.from < word.to,
-        value: 0,
-    };
-    let mut at = word.from;
-    while at < line.len() {
-        if word.to <= at {
-            return number;
-        }
-        number = with_digit(number, digit_of(line[at], base), base);
-        at += 1;
-    }
-    number
 }

@@ -1,9 +1,0 @@
--- `state_of` is safe and ends.
-use Prim.Native.Nat.{◌≤◌, ◌-◌}
-use Rattle.calls.proofs.memory.state_of.Given as goal
-
-abbrev pub invariant-loop-place : goal.invariant-loop-place
-invariant-loop-place l = l.place ≤ 6
-
-abbrev pub decreases-loop-place : goal.decreases-loop-place
-decreases-loop-place l = 6 - l.place
