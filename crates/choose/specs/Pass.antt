@@ -10,8 +10,10 @@ use Rattle.buffers.specs.Fills.{Fills, FillsWhere, number_at}
 use Rattle.model.specs.Width.{Width, value_in}
 use Rattle.sheets.specs.Sizes.{Measured}
 use Rattle.sheets.specs.declared.sizes.Sizes.{Sizes}
+use Rattle.rows.specs.Tables.{IsLine}
 use Rattle.speed_lanes.specs.declared.speeds.Speeds.{Speeds}
-use Rattle.speed_lanes.specs.Lanes.{slowest_in}
+use Rattle.speed_lanes.specs.Lanes.{slowest_in, speed_line}
+use Rattle.choose.specs.declared.pass.Queue as row
 use Rattle.choose.specs.Choice.{cost_at, least_in, byte_of}
 
 -- of the speeds of a tested sheet: the sheet, and its sizes
@@ -47,18 +49,37 @@ queue_of sizes b x = queue_with sizes.largest sizes.bound (number_of sizes b x)
 abbrev pub slowest_of : Sizes → View → ℕ → ℕ
 slowest_of sizes s b = slowest_in sizes.largest sizes.bound s (first_of sizes.largest sizes.bound b)
 
--- the queues of a row, one after the other: each by its block and its last total
+-- the queues of a row, one after the other: each by its block, its last total, and its block's line
 
--- the next queue is one of block b with the last total x, or there is none and b is behind the last block
-pub record At (sizes : Sizes) (b x : ℕ) : Type 0 where
-  pub block_upto : b ≤ sizes.after
-  pub inside : b < sizes.after → Within sizes b x
+-- the line that stands there is that of the block
+abbrev pub HasLine : Speeds → row.Queue → Type 0
+HasLine speeds queue =
+    let sizes = sizes_of speeds in
+    IsLine (sheet_of speeds).speed_count (speed_line sizes.largest sizes.bound (sheet_of speeds) queue.block)
+    queue.line.number queue.line.lowest queue.line.third queue.line.lanes.now
 
--- behind it comes the one of block b' with the last total x': the next of the same block, and behind the highest last total of a block the
--- first one of the next block
+-- such a queue: its block has one with that last total, and the line is that of the block
+pub record IsQueue (speeds : Speeds) (queue : row.Queue) : Type 0 where
+  pub within : Within (sizes_of speeds) queue.block queue.last
+  pub line : HasLine speeds queue
+
+-- where a row goes on: at a queue of a block, or behind the block's last one, with a last total one too high; in either case with the line
+pub record At (speeds : Speeds) (queue : row.Queue) : Type 0 where
+  pub block_low : queue.block < (sizes_of speeds).after
+  pub last_low : lowest_of (sizes_of speeds).largest (sizes_of speeds).bound queue.block ≤ queue.last
+  pub last_high : queue.last ≤ suc ((sizes_of speeds).bound * (sizes_of speeds).largest)
+  pub line : HasLine speeds queue
+
+-- where it goes on with the last total x in block b, the next queue is the one of block b' with the last total x': that one, and behind the
+-- highest last total of a block the first one of the next block
 pub record Next (sizes : Sizes) (b x b' x' : ℕ) : Type 0 where
-  pub same_block : x < sizes.bound * sizes.largest → (b' ≡ b) × (x' ≡ suc x)
-  pub next_block : sizes.bound * sizes.largest ≤ x → (b' ≡ suc b) × (b' < sizes.after → x' ≡ lowest_of sizes.largest sizes.bound b')
+  pub same_block : x ≤ sizes.bound * sizes.largest → (b' ≡ b) × (x' ≡ x)
+  pub next_block : sizes.bound * sizes.largest < x → (b' ≡ suc b) × (x' ≡ lowest_of sizes.largest sizes.bound b')
+
+-- there is none: it is behind the last block
+pub record Ended (sizes : Sizes) (b x : ℕ) : Type 0 where
+  pub last_block : suc b ≡ sizes.after
+  pub passed : sizes.bound * sizes.largest < x
 
 -- so many queues are left at most
 abbrev pub queues_left : Sizes → ℕ → ℕ → ℕ

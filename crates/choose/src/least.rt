@@ -2,7 +2,7 @@
 ghost use Rattle.std.specs.Prelude.{◌≡◌, ◌-◌, ◌≤◌, ◌<◌};
 ghost use Rattle.value.specs.Narrow.{width};
 ghost use Rattle.choose.specs.Choice.{cost_at, least_in, IsChoice, IsBetter};
-ghost use Rattle.choose.specs.Pass.{Within, queue_of, slowest_of, sheet_of, sizes_of};
+ghost use Rattle.choose.specs.Pass.{IsQueue, queue_of, slowest_of, sheet_of, sizes_of};
 
 use crate::pass::{Pass, Queue};
 use value::Value;
@@ -34,16 +34,16 @@ impl<'a> Pass<'a> {
     // What a speed costs in a queue: its scaled energy and what is ahead after it, none past the end of its lane. The lane rises with the
     // last total once that is above the speed.
     pub fn cost(&self, queue: Queue, place: usize) -> Value
-        requires { Within (sizes_of self.now.lanes.now.of) queue.block queue.last ×
+        requires { IsQueue self.now.lanes.now.of queue ×
             (slowest_of (sizes_of self.now.lanes.now.of) (sheet_of self.now.lanes.now.of) queue.block ≤ place) ×
             (place < (sheet_of self.now.lanes.now.of).speed_count) }
         ensures { result ≡ cost_at width (sizes_of self.now.lanes.now.of).largest (sizes_of self.now.lanes.now.of).bound
-            (sheet_of self.now.lanes.now.of) self.now.ahead.now self.now.scale (queue_of (sizes_of self.now.lanes.now.of) queue.block queue.last) place }
+            (sheet_of self.now.lanes.now.of) self.now.ahead.now self.now.scale (queue_of (sizes_of self.now.lanes.now.of) queue.entry.block queue.entry.last) place }
     {
         let lanes = self.lanes;
         let tested = lanes.of.tested;
         let sizes = tested.sizes;
-        let line = lanes.line(queue.block);
+        let line = queue.line;
         let speed = lanes.first(place);
         if (sizes.bound as u32 - 1) * sizes.largest + speed < queue.last {
             return Value::NONE;
@@ -55,9 +55,9 @@ impl<'a> Pass<'a> {
 
     // The least over the speeds in a queue.
     pub fn choose(&self, queue: Queue) -> Chosen
-        requires { Within (sizes_of self.now.lanes.now.of) queue.block queue.last }
+        requires { IsQueue self.now.lanes.now.of queue }
         ensures { IsChoice (least_in width (sizes_of self.now.lanes.now.of).largest (sizes_of self.now.lanes.now.of).bound
-            (sheet_of self.now.lanes.now.of) self.now.ahead.now self.now.scale (queue_of (sizes_of self.now.lanes.now.of) queue.block queue.last)) result.speed result.value }
+            (sheet_of self.now.lanes.now.of) self.now.ahead.now self.now.scale (queue_of (sizes_of self.now.lanes.now.of) queue.entry.block queue.entry.last)) result.speed result.value }
     {
         let mut best = Chosen {
             speed: NO_SPEED,
@@ -65,7 +65,7 @@ impl<'a> Pass<'a> {
         };
         let lanes = self.lanes;
         let tested = lanes.of.tested;
-        let slowest = lanes.line(queue.block).third as usize;
+        let slowest = queue.line.third as usize;
         for place in slowest..tested.sheet.speed_count as usize {
             best = best.better(lanes.first(place), self.cost(queue, place));
         }

@@ -1,10 +1,11 @@
 // What the second pass over a slot is given, and the queues of a row, one after the other in the order of their numbers.
-ghost use Rattle.std.specs.Prelude.{◌≡◌, ◌≤◌, ◌<◌, MatchOption};
+ghost use Rattle.std.specs.Prelude.{◌≡◌, suc, ◌<◌, MatchOption};
 ghost use Rattle.std.specs.Iterator.{at_most};
 ghost use Rattle.queues.specs.Blocks.{lowest_of};
 ghost use Rattle.value.specs.Narrow.{width};
-ghost use Rattle.choose.specs.Pass.{Given, Within, At, Next, number_of, queues_left, sheet_of, sizes_of};
+ghost use Rattle.choose.specs.Pass.{Given, IsQueue, At, Next, Ended, number_of, queues_left, sheet_of, sizes_of};
 
+use rows::Line;
 use speed_lanes::SpeedLanes;
 use value::Value;
 
@@ -17,89 +18,90 @@ pub struct Pass<'a> {
     pub ghost given: { Given width (sheet_of lanes.now.of) (sizes_of lanes.now.of) scale ahead.now },
 }
 
-// A queue of a row: its block, and its last total.
+// A queue of a row: its block and the line of that, and its last total.
 #[derive(Clone, Copy)]
-pub struct Queue {
+pub struct Queue<'a> {
     pub block: usize,
+    pub line: Line<'a>,
     pub last: u32,
 }
 
-// The queues of a row that are left, from this one on: block after block, and in each block as the last total rises.
+// The queues of a row that are left: block after block, and in each block as the last total rises. The next one is `queue`, or, where that
+// has one more than the highest last total, the first one of the next block. (So a block's line is looked up once, when it is due, and no
+// second queue is at hand while a caller works on one.)
 #[derive(Clone, Copy)]
 pub struct Queues<'a> {
     pub pass: &'a Pass<'a>,
-    pub block: usize,
-    pub last: u32,
-    pub ghost at: { At (sizes_of pass.now.lanes.now.of) block last },
+    pub queue: Queue<'a>,
+    pub ghost at: { At pass.now.lanes.now.of queue },
 }
 
 impl<'a> Pass<'a> {
     // The number of a queue: as far behind that of its block's first queue as its last total is above that one's.
     pub fn number(&self, queue: Queue) -> usize
-        requires { Within (sizes_of self.now.lanes.now.of) queue.block queue.last }
-        ensures { (result ≡ number_of (sizes_of self.now.lanes.now.of) queue.block queue.last) ×
+        requires { IsQueue self.now.lanes.now.of queue }
+        ensures { (result ≡ number_of (sizes_of self.now.lanes.now.of) queue.entry.block queue.entry.last) ×
             (result < (sizes_of self.now.lanes.now.of).queues) }
     {
-        let line = self.lanes.line(queue.block);
+        let line = queue.line;
         line.number as usize + (queue.last - line.lowest) as usize
     }
 
-    // The lowest last total of a block; 0 behind the last block.
-    fn lowest(&self, block: usize) -> u32
-        requires { block ≤ (sizes_of self.now.lanes.now.of).after }
-        ensures { block < (sizes_of self.now.lanes.now.of).after →
-            result ≡ lowest_of (sizes_of self.now.lanes.now.of).largest (sizes_of self.now.lanes.now.of).bound block }
+    // The first queue of a block.
+    fn first_queue(&self, block: usize) -> Queue<'a>
+        requires { block < (sizes_of self.now.lanes.now.of).after }
+        ensures { IsQueue self.now.lanes.now.of result × (result.block ≡ block) ×
+            (result.last ≡ lowest_of (sizes_of self.now.lanes.now.of).largest (sizes_of self.now.lanes.now.of).bound block) }
     {
-        let lanes = self.lanes;
-        let tested = lanes.of.tested;
-        if block == tested.sizes.after {
-            return 0;
+        let line = self.lanes.line(block);
+        Queue {
+            block,
+            line,
+            last: line.lowest,
         }
-        lanes.line(block).lowest
     }
 
     // All the queues of a row.
     pub fn queues(&'a self) -> Queues<'a>
-        ensures { (result.pass.now ≡ self.now) × (result.block ≡ 0) × (0 < (sizes_of self.now.lanes.now.of).after →
-            result.last ≡ lowest_of (sizes_of self.now.lanes.now.of).largest (sizes_of self.now.lanes.now.of).bound 0) }
+        ensures { (result.pass.now ≡ self.now) × (result.queue.block ≡ 0) ×
+            (result.queue.last ≡ lowest_of (sizes_of self.now.lanes.now.of).largest (sizes_of self.now.lanes.now.of).bound 0) }
     {
         Queues {
             pass: self,
-            block: 0,
-            last: self.lowest(0),
+            queue: self.first_queue(0),
         }
     }
 }
 
 impl<'a> Iterator for Queues<'a> {
-    type Item = Queue;
+    type Item = Queue<'a>;
 
-    ghost next_gives = { λ s r t. (t.pass.now ≡ s.pass.now) × MatchOption r (s.block ≡ (sizes_of s.pass.now.lanes.now.of).after)
-        (λ queue. Within (sizes_of s.pass.now.lanes.now.of) queue.block queue.last × (queue.block ≡ s.block) × (queue.last ≡ s.last) ×
-        Next (sizes_of s.pass.now.lanes.now.of) s.block s.last t.block t.last) };
+    ghost next_gives = { λ s r t. (t.pass.now ≡ s.pass.now) × MatchOption r
+        (Ended (sizes_of s.pass.now.lanes.now.of) s.queue.block s.queue.last)
+        (λ queue. IsQueue s.pass.now.lanes.now.of queue ×
+        Next (sizes_of s.pass.now.lanes.now.of) s.queue.block s.queue.last queue.block queue.last ×
+        (t.queue.block ≡ queue.block) × (t.queue.last ≡ suc queue.last)) };
 
-    ghost remaining = { λ s. at_most (queues_left (sizes_of s.pass.now.lanes.now.of) s.block s.last) };
+    ghost remaining = { λ s. at_most (queues_left (sizes_of s.pass.now.lanes.now.of) s.queue.block s.queue.last) };
 
-    fn next(&mut self) -> Option<Queue> {
+    fn next(&mut self) -> Option<Queue<'a>> {
         let pass = self.pass;
-        let block = self.block;
-        let last = self.last;
         let lanes = pass.lanes;
         let tested = lanes.of.tested;
         let sizes = tested.sizes;
-        if block == sizes.after {
-            return None;
+        let mut queue = self.queue;
+        if sizes.bound as u32 * sizes.largest < queue.last {
+            let block = queue.block + 1;
+            if block == sizes.after {
+                return None;
+            }
+            queue = pass.first_queue(block);
         }
-        let (block_after, last_after) = if last < sizes.bound as u32 * sizes.largest {
-            (block, last + 1)
-        } else {
-            (block + 1, pass.lowest(block + 1))
+        let next = Queue {
+            last: queue.last + 1,
+            ..queue
         };
-        *self = Queues {
-            pass,
-            block: block_after,
-            last: last_after,
-        };
-        Some(Queue { block, last })
+        *self = Queues { pass, queue: next };
+        Some(queue)
     }
 }

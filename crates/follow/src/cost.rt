@@ -2,7 +2,7 @@
 ghost use Rattle.std.specs.Prelude.{◌≡◌};
 ghost use Rattle.model.specs.View.{view_of};
 ghost use Rattle.value.specs.Narrow.{width};
-ghost use Rattle.choose.specs.Pass.{Within, queue_of, sheet_of, sizes_of};
+ghost use Rattle.choose.specs.Pass.{IsQueue, queue_of, sheet_of, sizes_of};
 ghost use Rattle.follow.specs.Pass.{ArePlaces, byte_cost_in};
 
 use choose::{Pass, Queue};
@@ -21,9 +21,9 @@ pub fn places_of(sheet: Ranged) -> [u32; 9]
 
 // What the speed of a byte costs in a queue. No speed is above 8, and what is slower than the block's slowest that leads on costs none.
 pub fn byte_cost(pass: &Pass, speed_places: [u32; 9], queue: Queue, byte: u8) -> Value
-    requires { Within (sizes_of pass.now.lanes.now.of) queue.block queue.last × ArePlaces (sheet_of pass.now.lanes.now.of) speed_places }
+    requires { IsQueue pass.now.lanes.now.of queue × ArePlaces (sheet_of pass.now.lanes.now.of) speed_places }
     ensures { result ≡ byte_cost_in width (sheet_of pass.now.lanes.now.of) (sizes_of pass.now.lanes.now.of) pass.now.ahead.now pass.now.scale
-        (queue_of (sizes_of pass.now.lanes.now.of) queue.block queue.last) byte }
+        (queue_of (sizes_of pass.now.lanes.now.of) queue.entry.block queue.entry.last) byte }
 {
     if 8 < byte {
         return Value::NONE;
@@ -34,7 +34,7 @@ pub fn byte_cost(pass: &Pass, speed_places: [u32; 9], queue: Queue, byte: u8) ->
     if tested.sheet.speed_count <= place {
         return Value::NONE;
     }
-    if place < lanes.line(queue.block).third {
+    if place < queue.line.third {
         return Value::NONE;
     }
     pass.cost(queue, place as usize)

@@ -31,15 +31,15 @@ returns-then-tested-place c =
     let nowhere = byte_nowhere sheet c.args.byte (omega (arith, place, c.if-tested-place.true)) in
     sym (byte_none sheet width sizes _ _ _ c.args.byte nowhere)
 
-pub returns-then-place-line : goal.returns-then-place-line
-returns-then-place-line c =
+pub returns-then-place-queue : goal.returns-then-place-queue
+returns-then-place-queue c =
     let pass = c.args.pass.now in
     let sheet = pass.lanes.now.of.tested.now.sheet in
     let sizes = pass.lanes.now.of.tested.now.sizes in
-    let inside = c.requires.0 in
-    let place = place_is (goal.at.returns-then-place-line c).Else-byte-gt8 in
+    let queue = c.requires.0 in
+    let place = place_is (goal.at.returns-then-place-queue c).Else-byte-gt8 in
     let counted : place_of_speed (view_of sheet) c.args.byte < sheet.speed_count = omega (arith, place, c.if-tested-place.false) in
-    let slow = slower_none pass.given inside (place_of_speed (view_of sheet) c.args.byte) (omega (arith, place, c.if-place-line.true, c.line.ensures.third_is)) in
+    let slow = slower_none pass.given queue.within (place_of_speed (view_of sheet) c.args.byte) (omega (arith, place, c.if-place-queue.true, queue.line.third_is)) in
     sym (byte_there sheet width sizes _ _ _ c.args.byte counted ∙ slow)
 
 pub returns : goal.returns

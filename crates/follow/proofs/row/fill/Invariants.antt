@@ -12,7 +12,7 @@ invariant-loop-queue l =
     let it = l.queue-iterator in
     let pass = l.pass in
     let sizes = sizes_of pass.lanes.now.of in
-    (goal.iterator-loop-queue).is_finite it × (sizes_of it.pass.now.lanes.now.of ≡ sizes) ×
+    (goal.iterator-loop-queue).is_finite it × (it.pass.now.lanes.now.of ≡ pass.lanes.now.of) ×
     FillsWhere width.places (value_in width)
     (cost_left width (sheet_of pass.lanes.now.of) sizes pass.ahead.now pass.scale l.plan l.row) l.this
-    (Before sizes it.block it.last) l.initial.values l.values
+    (Before sizes it.queue.block it.queue.last) l.initial.values l.values

@@ -11,10 +11,10 @@ use Rattle.choose.proofs.pass.Pass.choose.Goals as goal
 pub loop-place-init : goal.loop-place-init
 loop-place-init c =
     let given = c.args.self.now.given in
-    let from = c.line.ensures.third_is in (
+    let from = c.requires.line.third_is in (
       omega (arith, from),
-      omega (arith, from, slowest_few given c.requires.block_low),
-      least_begun (speed_at (sheet_of c.args.self.now.lanes.now.of)) _ _ (λ j h. slower_none given c.requires j (omega (arith, from)))
+      omega (arith, from, slowest_few given c.requires.within.block_low),
+      least_begun (speed_at (sheet_of c.args.self.now.lanes.now.of)) _ _ (λ j h. slower_none given c.requires.within j (omega (arith, from)))
           refl,
     )
 

@@ -12,25 +12,25 @@ overflow_add-sizes c = omega (arith, end_small c.args.self.now.given c.requires.
 pub returns-then-sizes-speed : goal.returns-then-sizes-speed
 returns-then-sizes-speed c =
     let pre = c.requires in
-    sym (cost_past c.args.self.now.given pre.0 pre.1 pre.2 c.first-speed.ensures c.if-sizes-speed.true)
+    sym (cost_past c.args.self.now.given pre.0.within pre.1 pre.2 c.first-speed.ensures c.if-sizes-speed.true)
 
 pub load-rest-requires : goal.load-rest-requires
 load-rest-requires c =
     let given = c.args.self.now.given in
     let pre = c.requires in
     fewer_fit width
-    (found_low given pre.0 pre.1 pre.2 c.first-speed.ensures c.if-sizes-speed.false c.line-line.ensures c.max.ensures
+    (found_low given pre.0.within pre.1 pre.2 c.first-speed.ensures c.if-sizes-speed.false pre.0.line c.max.ensures
     c.saturating_sub-on.ensures) given.room
 
 pub plus_times-requires : goal.plus_times-requires
 plus_times-requires c =
     let pre = c.requires in
-    cost_fits c.args.self.now.given pre.0 pre.1 pre.2 c.first-speed.ensures c.if-sizes-speed.false c.line-line.ensures c.max.ensures
+    cost_fits c.args.self.now.given pre.0.within pre.1 pre.2 c.first-speed.ensures c.if-sizes-speed.false pre.0.line c.max.ensures
     c.saturating_sub-on.ensures c.second.ensures c.load-rest.ensures
 
 pub returns : goal.returns
 returns c =
     let pre = c.requires in
     c.plus_times.ensures ∙
-    cost_there c.args.self.now.given pre.0 pre.1 pre.2 c.first-speed.ensures c.if-sizes-speed.false c.line-line.ensures c.max.ensures
+    cost_there c.args.self.now.given pre.0.within pre.1 pre.2 c.first-speed.ensures c.if-sizes-speed.false pre.0.line c.max.ensures
     c.saturating_sub-on.ensures c.second.ensures c.load-rest.ensures

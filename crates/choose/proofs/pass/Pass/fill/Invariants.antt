@@ -8,6 +8,6 @@ abbrev pub invariant-loop-queue : goal.invariant-loop-queue
 invariant-loop-queue l =
     let it = l.queue-iterator in
     let sizes = sizes_of l.self.lanes.now.of in
-    (goal.iterator-loop-queue).is_finite it × (sizes_of it.pass.now.lanes.now.of ≡ sizes) ×
+    (goal.iterator-loop-queue).is_finite it × (it.pass.now.lanes.now.of ≡ l.self.lanes.now.of) ×
     LeftWhere width (sheet_of l.self.lanes.now.of) sizes l.self.scale l.self.ahead.now l.this l.row
-    (Before sizes it.block it.last) l.initial.values l.initial.plan l.values l.plan
+    (Before sizes it.queue.block it.queue.last) l.initial.values l.initial.plan l.values l.plan

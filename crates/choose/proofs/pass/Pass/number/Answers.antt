@@ -3,4 +3,4 @@ use Rattle.choose.proofs.Passing.{number_found}
 use Rattle.choose.proofs.pass.Pass.number.Goals as goal
 
 pub returns : goal.returns
-returns c = number_found c.args.self.now.given c.requires c.line-line.ensures
+returns c = number_found c.args.self.now.given c.requires.within c.requires.line
