@@ -2,6 +2,7 @@
 #![tactic(auto)]
 
 ghost use Rattle.std.specs.Prelude.{◌≡◌, ◌≤◌, length, IfOk, MatchResult};
+ghost use Rattle.console.specs.Ends.{HasBytes, EndsAs};
 
 use model::Sheet;
 use std::io;
@@ -31,7 +32,9 @@ pub fn accepted(number: u32) -> Result<(), Stop>
 }
 
 // Reads a sheet from standard input. More than 512 bytes are never a sheet: the first 512 are read, and refused.
-pub fn read_sheet(rt: &(impl Input + Alloc)) -> Result<Sheet, Stop> {
+pub fn read_sheet(rt: &(impl Input + Alloc)) -> Result<Sheet, Stop>
+    ensures { IfOk result HasBytes }
+{
     let mut bytes = Vec::new(rt.alloc());
     rt.reader().take(512).read_to_end(&mut bytes)?;
     let read = reader::read(bytes.as_slice());
@@ -54,7 +57,9 @@ pub fn listing<'a>(
 }
 
 // Ends a program: where it was refused, by the one line of that refusal, written all at once.
-pub fn end(rt: &impl Print, done: Result<(), Stop>) -> io::Result<()> {
+pub fn end(rt: &impl Print, done: Result<(), Stop>) -> io::Result<()>
+    ensures { EndsAs done result }
+{
     match done {
         Ok(()) => Ok(()),
         Err(Stop::Failed(error)) => Err(error),
