@@ -4,7 +4,7 @@
 // A sheet is handed on by value: nothing here changes it. Places past the counts are never looked at.
 #![tactic(auto)]
 
-ghost use Rattle.std.specs.Prelude.{◌≡◌};
+ghost use Rattle.std.specs.Prelude.{◌≡◌, ◌*◌, ◌^◌, leb};
 ghost use Rattle.model.specs.View.{view_of, W, M, greatest_energy, G};
 ghost use Rattle.model.specs.Refusal.{value_fits, limits_refusal, N, value_limit};
 ghost use Rattle.refusals.specs.Numbers.{number_of};
@@ -55,17 +55,31 @@ pub fn weights(sheet: Ranged) -> u32
     sheet.sheet.jobs().iter().map(|one| one.weight).sum()
 }
 
-// Whether T times G times W to the power T stays within the limit, decided exactly: T and G are at least 1, so where the power or the
-// product leaves 64 bits it is past the limit.
-fn value_fits(sheet: Ranged) -> bool
-    ensures { result ≡ value_fits sheet.sheet.horizon value_limit (view_of sheet.sheet) }
+// Whether a number, multiplied so many times by another, stays within the limit. 0 does; of any other number, what leaves 64 bits on the way
+// is past the limit.
+fn product_fits(first: u64, by: u64, times: u32, limit: u64) -> bool
+    ensures { result ≡ leb (first * by ^ times) limit }
 {
-    let factor = sheet.sheet.horizon as u64 * greatest_or_one(sheet) as u64;
-    let weight_sum = weights(sheet) as u64;
-    weight_sum
-        .checked_pow(sheet.sheet.horizon)
-        .and_then(|power| power.checked_mul(factor))
-        .is_some_and(|value| value <= VALUE_LIMIT)
+    if first == 0 {
+        return true;
+    }
+    by.checked_pow(times)
+        .and_then(|power| power.checked_mul(first))
+        .is_some_and(|product| product <= limit)
+}
+
+// Whether the factor times G times W to the power T stays within the limit, decided exactly.
+fn value_fits(factor: u32, limit: u64, sheet: Ranged) -> bool
+    ensures { result ≡ value_fits factor limit (view_of sheet.sheet) }
+{
+    let greatest = greatest_or_one(sheet);
+    let weight_sum = weights(sheet);
+    product_fits(
+        factor as u64 * greatest as u64,
+        weight_sum as u64,
+        sheet.sheet.horizon,
+        limit,
+    )
 }
 
 // N, the number of bearable queues.
@@ -81,7 +95,7 @@ pub fn queues_of(counts: &Counts, sheet: Ranged) -> usize
 pub fn limits_refusal(counts: &Counts, sheet: Ranged) -> Result<(), Refusal>
     ensures { number_of result ≡ limits_refusal value_limit (N (view_of sheet.sheet)) (view_of sheet.sheet) }
 {
-    if !value_fits(sheet) {
+    if !value_fits(sheet.sheet.horizon, VALUE_LIMIT, sheet) {
         return Err(Refusal::Values);
     }
     if queues_of(counts, sheet) > 65535 {
