@@ -178,3 +178,9 @@ number_stored l i x h =
   where
     other : (p : ℕ) → (p < i * 1) ⊎ ((i + 1) * 1 ≤ p) → p ≡ i → ⊥
     other p = ⊎_elim (λ k e. omega arith) (λ k e. omega arith)
+
+-- n plain numbers, and one more stored behind them
+pub number_more : {f : ℕ → ℕ} {from n x : ℕ} {before after : List ℕ} → from + n < length before → x ≡ f n →
+    Fills 1 number_at f from n before after → Fills 1 number_at f from (n + 1) before (set after (from + n) x)
+number_more {from = from} {n = n} {x = x} {after = after} room same fill =
+    fills_more 1 number_at number_local refl same fill (number_stored after (from + n) x (omega (arith, fill.same_length)))

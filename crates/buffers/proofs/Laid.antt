@@ -8,8 +8,8 @@ use native.Mathlib.Nat.{mul-one, zero-add}
 use native.Mathlib.Omega.{arith}
 use borrow.Author.Tests.{ltb-true, ltb-false}
 use lib.Dec.{ltb}
-use lib.ListN.{length, get_or, drop, set, length-append, length-drop, get_or-append}
-use lib.Seq.{ext_get_or, get_or-append-add, get_or-drop}
+use lib.ListN.{length, get_or, take, drop, set, length-append, length-drop, get_or-append}
+use lib.Seq.{ext_get_or, get_or-append-add, get_or-drop, take-append_seam}
 use Rattle.model.specs.Bytes.{written, Wrote}
 use Rattle.model.specs.Tests.{in_turn}
 use Rattle.buffers.specs.Fills.{Fills, number_at}
@@ -84,3 +84,7 @@ laid_written {bytes = bytes} {before = before} {after = after} tested e room lai
 
     whole : after ≡ bytes ++ drop n before
     whole = ext_get_or 0 after (bytes ++ drop n before) long (λ i h. each i (ltb i n) refl)
+
+-- .. and it stands there, up to the place that follows
+pub laid_front : {l before after : List ℕ} {next : ℕ} → length l ≤ length before → Laid 0 l before after next → take next after ≡ l
+laid_front {l = l} room laid = rw ((laid_written 0 refl room laid).buffer_is, laid.next_is, zero-add) (take-append_seam l _)

@@ -3,7 +3,7 @@
 use Prim.Native.Nat.{ℕ, zero, suc, pred, min, ◌+◌, ◌*◌, ◌-◌, ◌≤◌, ◌<◌}
 use mathlib.Core.Path.{◌≡◌, refl, sym, ap, ◌∙◌}
 use mathlib.Core.List.{List, []}
-use native.Mathlib.Nat.{not-suc-le-zero, le_refl, suc-mul}
+use native.Mathlib.Nat.{not-suc-le-zero, le_refl, suc-mul, mul-le-mul_right}
 use native.Mathlib.Numerals.{add-one}
 use native.Mathlib.Omega.{arith}
 use lib.Dec.{T}
@@ -105,6 +105,10 @@ joined_in s D places j few six same e =
 pub most_fewer : (M D : ℕ) → 1 ≤ D → D * M - M ≡ pred D * M
 most_fewer M zero low = absurd (not-suc-le-zero low)
 most_fewer M (suc d) low = omega (arith, suc-mul d M)
+
+-- M is no more than D times M
+pub largest_upto : {sizes : Sizes} → Measured sizes → sizes.largest ≤ sizes.bound * sizes.largest
+largest_upto {sizes} m = omega (arith, mul-le-mul_right sizes.largest m.bound_low)
 
 -- the steps of a bearable queue, as the code works them out from its places, where no difference is below 0
 pub record StepsIn (M D : ℕ) (places : List ℕ) : Type 0 where

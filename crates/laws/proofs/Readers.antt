@@ -32,6 +32,16 @@ value_holds P e p = let d = value_same e in subst₂ P d.0 d.1 p
 
 -- one read and then another
 
+-- a read that gave a value goes on with it
+pub bind_value : {A B : Type 0} (r : Reader A) (more : A → Reader B) (bytes : List ℕ) (at : ℕ) {a : A} {next : ℕ} →
+    r bytes at ≡ value a next → ◌>>=◌ r more bytes at ≡ more a bytes next
+bind_value r more bytes at e = rw e
+
+-- a read that was refused is the answer
+pub bind_refused : {A B : Type 0} (r : Reader A) (more : A → Reader B) (bytes : List ℕ) (at : ℕ) {k : ℕ} →
+    r bytes at ≡ refused k → ◌>>=◌ r more bytes at ≡ refused k
+bind_refused r more bytes at e = rw e
+
 -- where an answer and what comes after it gave a value, so did the answer, and what comes after it gave the value from there
 pub onward_gave : {A B : Type 0} (x : Answer A) (more : A → ℕ → Answer B) {b : B} {next : ℕ} → onward x more ≡ value b next →
     (a : A) × (mid : ℕ) × (x ≡ value a mid) × (more a mid ≡ value b next)
@@ -123,13 +133,13 @@ headed_positive : {A : Type 0} (r : Reader A) (more : A → Reader (List A)) →
 headed_positive r more p q = bind_positive r _ p (λ one. bind_positive (more one) _ (q one) (λ rest bytes at. tt))
 
 -- reading a speed never refuses with 0
-read_speed_positive : (j before : ℕ) → NeverZero (read_speed j before)
+pub read_speed_positive : (j before : ℕ) → NeverZero (read_speed j before)
 unfolding read_speed
 read_speed_positive j before =
     tested_positive (speed_right j before) 4 _ (λ speed. tested_positive energy_right 5 _ (λ energy bytes at. tt))
 
 -- reading speeds never refuses with 0
-read_speeds_positive : (left j before : ℕ) → NeverZero (read_speeds left j before)
+pub read_speeds_positive : (left j before : ℕ) → NeverZero (read_speeds left j before)
 unfolding read_speeds
 read_speeds_positive zero j before = λ bytes at. tt
 read_speeds_positive (suc left) j before =
@@ -137,26 +147,26 @@ read_speeds_positive (suc left) j before =
     (λ one. read_speeds_positive left (suc j) one.speed)
 
 -- reading the speeds with their count never refuses with 0
-speed_table_positive : NeverZero read_speed_table
+pub speed_table_positive : NeverZero read_speed_table
 unfolding read_speed_table
 speed_table_positive = tested_positive speed_count_right 4 _ (λ n. read_speeds_positive n 0 0)
 
 -- reading a job never refuses with 0
-read_job_positive : (D : ℕ) → NeverZero (read_job D)
+pub read_job_positive : (D : ℕ) → NeverZero (read_job D)
 unfolding read_job
 read_job_positive D =
     tested_positive weight_right 7 _
     (λ weight. tested_positive size_right 7 _ (λ size. tested_positive (deadline_right D) 7 _ (λ deadline bytes at. tt)))
 
 -- reading jobs never refuses with 0
-read_jobs_positive : (D left : ℕ) → NeverZero (read_jobs D left)
+pub read_jobs_positive : (D left : ℕ) → NeverZero (read_jobs D left)
 unfolding read_jobs
 read_jobs_positive D zero = λ bytes at. tt
 read_jobs_positive D (suc left) =
     headed_positive (read_job D) (λ one. read_jobs D left) (read_job_positive D) (λ one. read_jobs_positive D left)
 
 -- reading the jobs with their count never refuses with 0
-job_table_positive : (D : ℕ) → NeverZero (read_job_table D)
+pub job_table_positive : (D : ℕ) → NeverZero (read_job_table D)
 unfolding read_job_table
 job_table_positive D = tested_positive job_count_right 7 _ (λ n. read_jobs_positive D n)
 

@@ -25,7 +25,17 @@ module _ (s : View) where
 
   -- the row call
 
-  -- it refuses nothing where the sheet is accepted and the plan is long enough
+  -- it refuses a sheet that is refused, with the sheet's number
+  pub row_refused : (room : ℕ) {number : ℕ} → number ≡ sheet_refusal value_limit s → (number ≡ 0 → ⊥) → number ≡ row_refusal s room
+  unfolding row_lines
+  row_refused room e some = sheet_refused value_limit _ e some
+
+  -- and 11 where the plan is too short
+  pub row_short : (room : ℕ) → sheet_refusal value_limit s ≡ 0 → room < plan_needed s → 11 ≡ row_refusal s room
+  unfolding row_lines
+  row_short room e h = sym (then_on (sheet_refusal value_limit s) _ e ∙ check_false _ 11 (lt-leb (plan_needed s) room h))
+
+  -- and 0 otherwise
   pub row_fits : (room : ℕ) → sheet_refusal value_limit s ≡ 0 → plan_needed s ≤ room → 0 ≡ row_refusal s room
   unfolding row_lines
   row_fits room e h = sym (then_on (sheet_refusal value_limit s) _ e ∙ check_true _ 11 (le-leb (plan_needed s) room h))

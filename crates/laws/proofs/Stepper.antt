@@ -5,7 +5,7 @@ use mathlib.Core.Path.{◌≡◌, refl, sym, ap, subst, ◌∙◌}
 use mathlib.Core.Bool.{Bool, true, false, cond, not, ◌&&◌, ◌||◌}
 use mathlib.Core.List.{List}
 use native.Mathlib.Omega.{arith}
-use borrow.Author.Tests.{le-leb, eq-eqb, ne_eqb}
+use borrow.Author.Tests.{le-leb, lt-leb, eq-eqb, ne_eqb}
 use lib.Dec.{T, T_not, leb, eqb, leb→le, eqb_refl}
 use lib.ListN.{length, get_or}
 use Rattle.model.specs.View.{View, size_at, deadline_at, on_sheet, energy_of, greatest_energy, M}
@@ -13,7 +13,7 @@ use Rattle.model.specs.Plan.{place_of_queue, no_speed, row_refusal}
 use Rattle.model.specs.Queue.{total, places_of, bearable, one_slot}
 use Rattle.model.specs.Stepper.{State, queue_of, queue_right, state_right, zero_state, begun, plan_byte, byte_right, speed_now, begins_right, stepped_by, start_refusal, start_lines, start, ending_refusal, ending_lines, is_entry_at, is_entry, moved, next_refusal, advance_refusal, advance_lines, advance}
 use Rattle.model.specs.Tests.{check, ◌then◌}
-use Rattle.model.proofs.Tests.{anywhere_one, and_both, and_left, and_right, check_zero, then_left, then_right, then_on, then_passes, then_fails, then_stops}
+use Rattle.model.proofs.Tests.{anywhere_one, and_both, and_left, and_right, and_fails_right, check_zero, then_left, then_right, then_on, then_passes, then_fails, then_stops}
 
 module _ (s : View) where
   -- what both calls answer, by their number
@@ -46,7 +46,21 @@ module _ (s : View) where
         leb→le x.energy (x.slot * greatest_energy s) (and_right (queue_right s x && slot) energy t),
       )
 
-  -- 13's test, by its parts: where the queue and the slot are right, the energy decides
+  -- 13's test, by its parts: a state is not right where its queue is not
+
+  pub wrong_queue : (x : State) → queue_right s x ≡ false → state_right s x ≡ false
+  unfolding state_right
+  wrong_queue x e =
+      ap (λ (b : Bool). b && leb x.slot s.horizon && leb x.energy (x.slot * greatest_energy s)) e
+
+  -- nor where its slot is past the horizon
+  pub wrong_slot : (x : State) → s.horizon < x.slot → state_right s x ≡ false
+  unfolding state_right
+  wrong_slot x h =
+      ap (λ (b : Bool). b && leb x.energy (x.slot * greatest_energy s))
+      (and_fails_right (queue_right s x) _ (lt-leb x.slot s.horizon h))
+
+  -- and otherwise its energy decides
   pub energy_decides : (x : State) → queue_right s x ≡ true → x.slot ≤ s.horizon →
       state_right s x ≡ leb x.energy (x.slot * greatest_energy s)
   unfolding state_right
@@ -110,7 +124,12 @@ module _ (s : View) where
   unfolding start_lines
   start_in_parts plan x = refl
 
-  -- behind the row call's tests it refuses with 13, where the queue is not right
+  -- it refuses what the row call refuses
+  pub start_refusal_row : (plan : List ℕ) (x : State) {number : ℕ} → number ≡ row_refusal s (length plan) → (number ≡ 0 → ⊥) →
+      start_refusal s plan x ≡ number
+  start_refusal_row plan x {number = number} e some = start_in_parts plan x ∙ rw (← e) (then_stops number _ some)
+
+  -- then 13, where the queue is not right
   pub start_refusal_13 : (plan : List ℕ) (x : State) → row_refusal s (length plan) ≡ 0 → queue_right s x ≡ false → start_refusal s plan x ≡ 13
   start_refusal_13 plan x e wrong =
       start_in_parts plan x ∙ then_on (row_refusal s (length plan)) _ e ∙ then_fails (queue_right s x) 12 _ wrong
@@ -142,6 +161,11 @@ module _ (s : View) where
       (check (state_right s x) 13 then (check (not (eqb x.slot s.horizon)) 14 then check (byte_right s x (plan_byte s plan x)) 16))
   unfolding ending_lines
   ending_in_parts plan x = refl
+
+  -- it refuses what the row call refuses
+  pub ending_refusal_row : (plan : List ℕ) (x : State) {number : ℕ} → number ≡ row_refusal s (length plan) → (number ≡ 0 → ⊥) →
+      ending_refusal s plan x ≡ number
+  ending_refusal_row plan x {number = number} e some = ending_in_parts plan x ∙ rw (← e) (then_stops number _ some)
 
   -- what is left where the row call refuses nothing
   after_row : (plan : List ℕ) (x : State) → row_refusal s (length plan) ≡ 0 →

@@ -13,7 +13,7 @@ use lib.ListN.{length, get_or, drop, length-drop}
 use lib.Seq.{drop-cons, drop-length, get_or-drop}
 use borrow.Author.Tests.{eq-eqb, ne_eqb}
 use Rattle.process.specs.Sums.{sum, same}
-use Rattle.process.proofs.Sums.{sum_same}
+use Rattle.process.proofs.Sums.{sum_more, sum_same}
 use Rattle.model.specs.Queue.{Queue, total, queue_in, bearable, each_total, continuations, bearable_queues, queue_count, place_in, number_of, continuation_count}
 use Rattle.model.proofs.Queues.{GoesOn, bearable_at_lem, bearable_upto, continuations_count, continuations_in, place_found, number_below, queue_count_lem, length_in}
 use Rattle.counts.specs.Counts.{InTable}
@@ -107,6 +107,11 @@ unfolding number_of bearable_queues continuations place_in same
 number_sum M w t =
     let none : 0 * M - 0 ≡ 0 = omega arith in
     (rw none at (rest_sum M w t (length w) 0 (add-zero (length w)))) ∙ rw (drop-length, add-zero)
+
+-- what comes before it at the first positions alone is no more than its number, and so below N
+pub sum_below : (M : ℕ) (w : Queue) → T (bearable M w) → (u : ℕ) → u ≤ length w → sum (earlier_at M w) u < queue_count M (length w)
+sum_below M w t u h =
+    omega (arith, number_below M w refl t, number_sum M w t, sum_more (earlier_at M w) u (length w) h)
 
 -- a queue that stands in the first D of six places
 

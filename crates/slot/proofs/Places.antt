@@ -59,6 +59,21 @@ small_in D places place h small = omega (arith, total_in D places (suc place) h,
 pub positions_in : (n : ℕ) (w : Queue) → n ≤ 6 → n ≤ length w → queue_in n (places_of w) ≡ queue_in n w
 positions_in n w few long = take-take n 6 (w ++ replicate 6 0) few ∙ take-append-le n w (replicate 6 0) long
 
+-- they are the first six totals, one after the other
+pub six_places : (w : Queue) → places_of w ≡ total w 1 ∷ total w 2 ∷ total w 3 ∷ total w 4 ∷ total w 5 ∷ total w 6 ∷ []
+six_places [] = refl
+six_places (a ∷ []) = refl
+six_places (a ∷ b ∷ []) = refl
+six_places (a ∷ b ∷ c ∷ []) = refl
+six_places (a ∷ b ∷ c ∷ d ∷ []) = refl
+six_places (a ∷ b ∷ c ∷ d ∷ e ∷ []) = refl
+six_places (a ∷ b ∷ c ∷ d ∷ e ∷ f ∷ w) = refl
+
+-- six numbers that are the totals in turn are its places
+pub places_by : (w : Queue) {a b c d e f : ℕ} → a ≡ total w 1 → b ≡ total w 2 → c ≡ total w 3 → d ≡ total w 4 → e ≡ total w 5 →
+    f ≡ total w 6 → a ∷ b ∷ c ∷ d ∷ e ∷ f ∷ [] ≡ places_of w
+places_by w p q r s t u = cc (six_places w)
+
 -- the places of the queue in the first D of six places are these places, where the ones past D are zero
 pub places_in : (D : ℕ) (places : List ℕ) → length places ≡ 6 → ((i : ℕ) → D ≤ i → i < 6 → get_or places i 0 ≡ 0) →
     places_of (queue_in D places) ≡ places
