@@ -5,11 +5,28 @@ ghost use Rattle.model.specs.Listing.{decimal};
 use itoa::Buffer;
 use sinks::Sink;
 
-// Puts a number.
+// Puts a number. One of at most three digits, as a plan byte or a slot has, is put at once: a listing is made of these, and a buffer for each
+// of them would cost more than all the rest.
 pub fn put_decimal<S: Sink>(sink: &mut S, x: u64)
     requires { S.HasRoom sink.old (length (decimal x)) }
     ensures { S.Puts sink.old (decimal x) sink.new }
 {
+    if x < 10 {
+        sink.put(&[(48 + x) as u8]);
+        return;
+    }
+    if x < 100 {
+        sink.put(&[(48 + x / 10) as u8, (48 + x % 10) as u8]);
+        return;
+    }
+    if x < 1000 {
+        sink.put(&[
+            (48 + x / 10 / 10) as u8,
+            (48 + x / 10 % 10) as u8,
+            (48 + x % 10) as u8,
+        ]);
+        return;
+    }
     let mut digits = Buffer::new();
     sink.put(digits.format(x).as_bytes());
 }

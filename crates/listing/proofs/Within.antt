@@ -79,20 +79,27 @@ listing_upto s least plan e h are =
     let lines = turn_times (line_of_slot s plan) s.horizon (5 + 4 * N s) (λ t l. line_upto plan (N s) t are (omega (arith, slots))) in
     simp length-append (omega (arith, header_upto s least e h, lines))
 
--- whatever the header tells, and so less than any count of bytes: 82 for the header, and at most 262,145 for each slot
+-- whatever it tells, the header is at most 82 long: each of its numbers has at most 20 digits
+pub header_within : (queues scale least : ℕ) → queues < 2 ^ 64 → scale < 2 ^ 64 → least < 2 ^ 64 → length (header queues scale least) ≤ 82
+header_within queues scale least queues_fits scale_fits least_fits =
+    omega (
+      arith,
+      header_length queues scale least refl refl refl,
+      digits_upto 20 20 queues (omega arith) (omega arith),
+      digits_upto 20 20 scale (omega arith) (omega arith),
+      digits_upto 20 20 least (omega arith) (omega arith),
+    )
+
+-- the lines of so many slots are at most 262,145 long each
+pub lines_upto : {plan : List ℕ} {queues slots : ℕ} → HasRows plan queues slots → AreBytes plan →
+    length (lines_to plan queues slots) ≤ slots * 262145
+lines_upto {plan} {queues} {slots} has are =
+    turn_times (line_at plan queues) slots 262145
+    (λ t l. omega (arith, line_upto plan queues t are (omega (arith, has.few_slots)), has.few_queues))
+
+-- so the whole is less than any count of bytes
 pub whole_upto : {plan : List ℕ} {queues slots : ℕ} (scale least : ℕ) → HasRows plan queues slots → scale < 2 ^ 64 → least < 2 ^ 64 →
     AreBytes plan → length (whole_listing queues scale least plan slots) < 2 ^ 64
 whole_upto {plan} {queues} {slots} scale least has scale_fits least_fits are =
-    let lines : length (lines_to plan queues slots) ≤ slots * 262145 =
-    turn_times (line_at plan queues) slots 262145
-    (λ t l. omega (arith, line_upto plan queues t are (omega (arith, has.few_slots)), has.few_queues)) in
-    simp length-append
-    (omega (
-      arith,
-      header_length queues scale least refl refl refl,
-      digits_upto 20 20 queues (omega arith) (omega (arith, has.few_queues)),
-      digits_upto 20 20 scale (omega arith) (omega arith),
-      digits_upto 20 20 least (omega arith) (omega arith),
-      lines,
-      has.few_slots,
-    ))
+    let head = header_within queues scale least (omega (arith, has.few_queues)) scale_fits least_fits in
+    simp length-append (omega (arith, head, lines_upto has are, has.few_slots))
