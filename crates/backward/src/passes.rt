@@ -37,6 +37,7 @@ fn fill_slot(
     first.fill(ahead);
     let second = choose::Pass {
         lanes: speeds,
+        sizes: walk.tested.sizes,
         scale: slot.scale,
         ahead,
     };

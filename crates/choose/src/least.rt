@@ -41,8 +41,7 @@ impl<'a> Pass<'a> {
             (sheet_of self.now.lanes.now.of) self.now.ahead.now self.now.scale (queue_of (sizes_of self.now.lanes.now.of) queue.entry.block queue.entry.last) place }
     {
         let lanes = self.lanes;
-        let tested = lanes.of.tested;
-        let sizes = tested.sizes;
+        let sizes = self.sizes;
         let line = queue.line;
         let speed = lanes.first(place);
         if (sizes.bound as u32 - 1) * sizes.largest + speed < queue.last {
@@ -64,9 +63,8 @@ impl<'a> Pass<'a> {
             value: Value::NONE,
         };
         let lanes = self.lanes;
-        let tested = lanes.of.tested;
         let slowest = queue.line.third as usize;
-        for place in slowest..tested.sheet.speed_count as usize {
+        for place in slowest..queue.line.lanes.len() {
             best = best.better(lanes.first(place), self.cost(queue, place));
         }
         best

@@ -6,16 +6,20 @@ ghost use Rattle.value.specs.Narrow.{width};
 ghost use Rattle.choose.specs.Pass.{Given, IsQueue, At, Next, Ended, number_of, queues_left, sheet_of, sizes_of};
 
 use rows::Line;
+use sheets::Sizes;
 use speed_lanes::SpeedLanes;
 use value::Value;
 
-// What the pass goes by: the lanes of the speeds of a tested sheet, the scale of the slot, and what is ahead after the slot.
+// What the pass goes by: the lanes of the speeds of a tested sheet, the scale of the slot, and what is ahead after the slot. (The sizes are
+// the sheet's, at hand by value: behind the reference they would be read anew at every queue, since values and plan bytes are stored between.)
 #[derive(Clone, Copy)]
 pub struct Pass<'a> {
     pub lanes: &'a SpeedLanes<'a>,
+    pub sizes: Sizes,
     pub scale: Value,
     pub ahead: &'a [u64],
     pub ghost given: { Given width (sheet_of lanes.now.of) (sizes_of lanes.now.of) scale ahead.now },
+    pub ghost sheets: { sizes ≡ sizes_of lanes.now.of },
 }
 
 // A queue of a row: its block and the line of that, and its last total.
@@ -86,9 +90,7 @@ impl<'a> Iterator for Queues<'a> {
 
     fn next(&mut self) -> Option<Queue<'a>> {
         let pass = self.pass;
-        let lanes = pass.lanes;
-        let tested = lanes.of.tested;
-        let sizes = tested.sizes;
+        let sizes = pass.sizes;
         let mut queue = self.queue;
         if sizes.bound as u32 * sizes.largest < queue.last {
             let block = queue.block + 1;

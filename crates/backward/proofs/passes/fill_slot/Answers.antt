@@ -1,7 +1,7 @@
 -- `fill_slot` meets its contract: the row of the next slot says of each queue what its value is, so the first pass leaves what is ahead, and
 -- the least over the speeds that the second pass leaves is the recursion's.
 use Prim.Native.Nat.{◌+◌, ◌*◌, ◌≤◌}
-use mathlib.Core.Path.{sym, subst}
+use mathlib.Core.Path.{sym, ap, subst}
 use lib.ListN.{length}
 use Rattle.model.specs.View.{view_of}
 use Rattle.model.specs.Width.{value_in}
@@ -59,6 +59,7 @@ invariant_of-second c =
     record {
       given = subst (λ (t : Tested). second.Given width (view_of t.sheet) t.sizes c.args.slot.scale c.fill.new.ahead) (sym c.requires.lanes.1)
           (second_given width is_ready (value_valued _ _) (value_sums width is_ready (stands at.After-fill)));
+      sheets = ap (λ (t : Tested). t.sizes) (sym c.requires.lanes.1);
     }
 
 pub fill-requires-2 : goal.fill-requires-2

@@ -1,7 +1,7 @@
 -- `fill_slot` meets its contract: the row of the next slot holds prices, so the first pass leaves what is ahead of each queue after the slot,
 -- and what each byte costs by that is the price.
 use Prim.Native.Nat.{◌+◌, ◌*◌, ◌≤◌}
-use mathlib.Core.Path.{sym, subst}
+use mathlib.Core.Path.{sym, ap, subst}
 use lib.ListN.{length}
 use native.Mathlib.Omega.{arith}
 use Rattle.follow.specs.Pass.{ArePlaces, cost_left}
@@ -64,6 +64,7 @@ invariant_of-second c =
     record {
       given = subst (λ (t : Tested). second.Given width (view_of t.sheet) t.sizes c.args.slot.scale c.fill.new.ahead) (sym c.requires.lanes.1)
           (second_given width is_ready (price_valued _ _ _) (stands at.After-fill));
+      sheets = ap (λ (t : Tested). t.sizes) (sym c.requires.lanes.1);
     }
 
 pub fill-requires-2 : goal.fill-requires-2
