@@ -6,18 +6,13 @@ use crate::print::{
 };
 use crate::problem::{Failure, Problem};
 use crate::request::{Buffer, Field, Request, Shown, request_of};
-use std::alloc::Global;
+use crate::words::Word;
 use std::io;
 use std::ops::Range;
 
 // Answers a line, and counts it where it is not understood.
-pub fn answer_line(
-    rt: &impl Print,
-    alloc: Global,
-    memory: &mut Memory,
-    line: &[u8],
-) -> io::Result<()> {
-    match answer(rt, alloc, memory, line) {
+pub fn answer_line(rt: &impl Print, memory: &mut Memory, line: &[u8]) -> io::Result<()> {
+    match answer(rt, memory, line) {
         Ok(()) => Ok(()),
         Err(Failure::NotUnderstood(problem)) => {
             memory.wrong = memory.wrong.saturating_add(1);
@@ -28,8 +23,8 @@ pub fn answer_line(
 }
 
 // Answers a line that is understood. Where it is not, nothing is changed and nothing printed.
-fn answer(rt: &impl Print, alloc: Global, memory: &mut Memory, line: &[u8]) -> Result<(), Failure> {
-    match request_of(alloc, line)? {
+fn answer(rt: &impl Print, memory: &mut Memory, line: &[u8]) -> Result<(), Failure> {
+    match request_of(line)? {
         Request::Nothing => println!(rt)?,
         Request::Copy(line) => {
             rt.write_all(line)?;
@@ -43,12 +38,12 @@ fn answer(rt: &impl Print, alloc: Global, memory: &mut Memory, line: &[u8]) -> R
         Request::FillValues(value) => memory.values.lent_mut().fill(value),
         Request::FillPlan(byte) => memory.plan.lent_mut().fill(byte),
         Request::FillBytes(byte) => memory.bytes.lent_mut().fill(byte),
-        Request::PutValues(place, values) => memory.values.put(place, values.as_slice())?,
-        Request::PutPlan(place, bytes) => memory.plan.put(place, bytes.as_slice())?,
-        Request::PutBytes(place, bytes) => memory.bytes.put(place, bytes.as_slice())?,
-        Request::Bytes(bytes) => {
-            memory.bytes.lend(bytes.len());
-            memory.bytes.put(0, bytes.as_slice())?;
+        Request::PutValues(place, words) => memory.values.put(place, words, Word::value)?,
+        Request::PutPlan(place, words) => memory.plan.put(place, words, Word::byte)?,
+        Request::PutBytes(place, words) => memory.bytes.put(place, words, Word::hex_byte)?,
+        Request::Bytes(words) => {
+            memory.bytes.lend(words.count());
+            memory.bytes.put(0, words, Word::hex_byte)?;
         }
         Request::Show(shown) => show(rt, memory, shown)?,
         Request::Sum(buffer, part) => {

@@ -14,6 +14,7 @@ mod words;
 use answer::answer_line;
 use input::next_line;
 use memory::Memory;
+use request::LONGEST_LINE;
 use std::io;
 use std::io::BufReader;
 
@@ -27,17 +28,17 @@ fn tell(rt: &impl Eprint, wrong: u64) -> io::Result<()> {
 }
 
 // Answers every line. The loop must be proved to end, and nothing says that a script does: so it counts its turns, up to a number that no
-// run reaches.
+// run reaches. What a script needs of memory is taken before its first line, with room for the longest one, so that none is wanted later.
 fn main(rt: HostRuntime) -> io::Result<()> {
     let alloc = rt.alloc();
     let mut memory = Memory::new(alloc)?;
     let mut input = BufReader::new(alloc, rt.reader())?;
-    let mut line = Vec::new(alloc);
+    let mut line = Vec::with_capacity(alloc, LONGEST_LINE + 1)?;
     for _ in 0..u64::MAX {
         if !next_line(&mut input, &mut line)? {
             break;
         }
-        answer_line(&rt, alloc, &mut memory, line.as_slice())?;
+        answer_line(&rt, &mut memory, line.as_slice())?;
     }
     tell(&rt, memory.wrong)
 }

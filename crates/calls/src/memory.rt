@@ -2,6 +2,7 @@
 ghost use Rattle.std.specs.Prelude.{◌≤◌, vec_len};
 
 use crate::problem::Problem;
+use crate::words::{Word, Words};
 use model::{Job, Sheet, Speed};
 use std::alloc::{AllocError, Global};
 use std::ops::Range;
@@ -47,14 +48,21 @@ impl<T: Copy + Drop> Places<T> {
             .ok_or(Problem::NotLent { lent: self.lent })
     }
 
-    // Puts these into the places from one on, where all of them are lent.
-    pub fn put(&mut self, from: usize, items: &[T]) -> Result<(), Problem> {
+    // Puts what these words say into the places from one on, where all of them are lent.
+    pub fn put<'a, F: Fn(Word<'a>) -> Result<T, Problem>>(
+        &mut self,
+        from: usize,
+        words: Words<'a>,
+        read: F,
+    ) -> Result<(), Problem>
+        requires { F.IsAlwaysCallable read }
+    {
         let refused = Problem::NotLent { lent: self.lent };
         let (_, places) = self.lent_mut().split_at_mut_checked(from).ok_or(refused)?;
-        places
-            .get_mut(..items.len())
-            .ok_or(refused)?
-            .copy_from_slice(items);
+        let places = places.get_mut(..words.count()).ok_or(refused)?;
+        for (place, word) in places.iter_mut().zip(words) {
+            *place = read(word)?;
+        }
         Ok(())
     }
 }

@@ -1,4 +1,6 @@
 // What is printed of numbers, bytes, a sheet and a state; and the checksum.
+ghost use Rattle.std.specs.Prelude.{◌<◌};
+
 use model::Sheet;
 use std::fmt;
 use std::fmt::Display;
@@ -108,9 +110,12 @@ impl Display for StateText<'_> {
 const MODULUS: u64 = 4294967291;
 
 // It is below the modulus, and so fits 32 bits.
-pub fn checksum<T: Copy + Into<u64>>(numbers: &[T]) -> u32 {
-    numbers.iter().fold(0, |sum, number| {
+pub fn checksum<T: Copy + Into<u64>>(numbers: &[T]) -> u32
+    ensures { result < 4294967291 }
+{
+    let sum = numbers.iter().fold(0, |sum: u64, number| {
         let number: u64 = (*number).into();
-        ((u64::from(sum) * 1000003 + number % MODULUS) % MODULUS) as u32
-    })
+        sum % MODULUS * 1000003 + number % MODULUS
+    });
+    (sum % MODULUS) as u32
 }

@@ -1,5 +1,4 @@
 // What is wrong with a line, in the words of the last table of docs/CALLS.md; and what can keep a line from being answered.
-use std::alloc::AllocFailed;
 use std::{fmt, io};
 
 // Words are counted from 1.
@@ -47,11 +46,5 @@ impl From<Problem> for Failure {
 impl From<io::Error> for Failure {
     fn from(error: io::Error) -> Failure {
         Failure::Io(error)
-    }
-}
-
-impl<T: Drop> From<AllocFailed<T>> for Failure {
-    fn from(failed: AllocFailed<T>) -> Failure {
-        Failure::Io(failed.into())
     }
 }

@@ -1,9 +1,8 @@
 // What a line asks for: its words are taken from the left, until one is wrong.
 use crate::memory::{BYTES, PLAN_BYTES, VALUES};
-use crate::problem::{Failure, Problem};
+use crate::problem::Problem;
 use crate::words::{Word, Words};
 use model::{Job, Speed};
-use std::alloc::Global;
 use std::ops::Range;
 use stepper::State;
 
@@ -11,7 +10,7 @@ use stepper::State;
 pub const LONGEST_LINE: usize = 65536;
 
 // `Nothing` is asked by a line without words, and `Copy` by one that begins with `#`; the others have the names of their words. What is put
-// into places comes with the first of them.
+// into places comes with the first of them, as the words that say it.
 #[derive(Drop)]
 pub enum Request<'a> {
     Nothing,
@@ -22,10 +21,10 @@ pub enum Request<'a> {
     FillValues(u64),
     FillPlan(u8),
     FillBytes(u8),
-    PutValues(usize, Vec<u64>),
-    PutPlan(usize, Vec<u8>),
-    PutBytes(usize, Vec<u8>),
-    Bytes(Vec<u8>),
+    PutValues(usize, Words<'a>),
+    PutPlan(usize, Words<'a>),
+    PutBytes(usize, Words<'a>),
+    Bytes(Words<'a>),
     Show(Shown),
     Sum(Buffer, Range<usize>),
     Call(Call),
@@ -110,9 +109,9 @@ impl Buffer {
 }
 
 // What a line asks for, or what is wrong with it.
-pub fn request_of(alloc: Global, line: &[u8]) -> Result<Request<'_>, Failure> {
+pub fn request_of(line: &[u8]) -> Result<Request<'_>, Problem> {
     if LONGEST_LINE < line.len() {
-        return Err(Failure::from(Problem::TooLong { most: LONGEST_LINE }));
+        return Err(Problem::TooLong { most: LONGEST_LINE });
     }
     if line.first() == Some(&b'#') {
         return Ok(Request::Copy(line));
@@ -121,13 +120,13 @@ pub fn request_of(alloc: Global, line: &[u8]) -> Result<Request<'_>, Failure> {
     let Some(name) = words.next() else {
         return Ok(Request::Nothing);
     };
-    let request = named(alloc, name.text, &mut words)?;
+    let request = named(name.text, &mut words)?;
     words.end()?;
     Ok(request)
 }
 
 // The request of a line with this first word, of whose other words it takes what it needs.
-fn named<'a>(alloc: Global, name: &[u8], words: &mut Words) -> Result<Request<'a>, Failure> {
+fn named<'a>(name: &[u8], words: &mut Words<'a>) -> Result<Request<'a>, Problem> {
     let request = match name {
         b"clear" => Request::Clear,
         b"set" => Request::Set(field_of(object(words)?, words)?),
@@ -136,8 +135,8 @@ fn named<'a>(alloc: Global, name: &[u8], words: &mut Words) -> Result<Request<'a
             Request::Lend(buffer, buffer.place(words)?)
         }
         b"fill" => fill_of(Buffer::named(object(words)?)?, words)?,
-        b"put" => put_of(alloc, Buffer::named(object(words)?)?, words)?,
-        b"bytes" => Request::Bytes(words.all(alloc, Word::hex_byte)?),
+        b"put" => put_of(Buffer::named(object(words)?)?, words)?,
+        b"bytes" => Request::Bytes(words.all(Word::hex_byte)?),
         b"show" => Request::Show(shown_of(object(words)?, words)?),
         b"sum" => sum_of(object(words)?, words)?,
         _ => Request::Call(call_of(name, words)?),
@@ -199,15 +198,15 @@ fn fill_of<'a>(buffer: Buffer, words: &mut Words) -> Result<Request<'a>, Problem
     })
 }
 
-fn put_of<'a>(alloc: Global, buffer: Buffer, words: &mut Words) -> Result<Request<'a>, Failure> {
+fn put_of<'a>(buffer: Buffer, words: &mut Words<'a>) -> Result<Request<'a>, Problem> {
     let place = buffer.place(words)?;
     // At least one number must follow.
     let mut ahead = *words;
     ahead.needed()?;
     Ok(match buffer {
-        Buffer::Values => { Request::PutValues(place, words.all(alloc, Word::value)?) }
-        Buffer::Plan => Request::PutPlan(place, words.all(alloc, Word::byte)?),
-        Buffer::Bytes => Request::PutBytes(place, words.all(alloc, Word::hex_byte)?),
+        Buffer::Values => Request::PutValues(place, words.all(Word::value)?),
+        Buffer::Plan => Request::PutPlan(place, words.all(Word::byte)?),
+        Buffer::Bytes => Request::PutBytes(place, words.all(Word::hex_byte)?),
     })
 }
 

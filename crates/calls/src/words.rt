@@ -2,8 +2,7 @@
 ghost use Rattle.std.specs.Prelude.{◌≤◌, length, IfOk};
 ghost use Rattle.std.specs.Iterator.{at_most};
 
-use crate::problem::{Failure, Problem};
-use std::alloc::Global;
+use crate::problem::Problem;
 
 // A word, and which word of its line it is, counted from 1.
 #[derive(Clone, Copy)]
@@ -124,18 +123,18 @@ impl<'a> Words<'a> {
         }
     }
 
-    // All words that are left, each read in the same way.
+    // All words that are left, once each of them can be read in this way. They are handed on as words, and read again where they are put: so
+    // a line asks for no memory.
     pub fn all<T: Drop, F: Fn(Word<'a>) -> Result<T, Problem>>(
         &mut self,
-        alloc: Global,
         read: F,
-    ) -> Result<Vec<T>, Failure>
+    ) -> Result<Words<'a>, Problem>
         requires { F.IsAlwaysCallable read }
     {
-        let mut items = Vec::new(alloc);
+        let words = *self;
         for word in self {
-            items.push(read(word)?)?;
+            read(word)?;
         }
-        Ok(items)
+        Ok(words)
     }
 }
